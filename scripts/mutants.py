@@ -4,7 +4,7 @@ usage: scripts/mutants.py CRATE/NAME FOLDER     plants one in FOLDER, a copy of 
 
 The mutants of a crate are in bugs/CRATE.edits, and those of the gate in crates/CRATE/must-fail/NAME.edit. A line '# NAME' starts a
 mutant of an .edits file. Its other lines are 'fn: PATH', a function that is to be refused, named as `rt check` names it without its
-crate; 'file: PATH', a file of the crate, in src/, or in specs/ where each function is one of `laws`, which does nothing; 'old: TEXT',
+crate; 'file: PATH', a file of the crate, in src/, or in specs/ where each function is one of a module or of the crate `laws`, which does nothing; 'old: TEXT',
 a text that this file has once, or else that the first function has once; and 'new: TEXT', what replaces it. A mutant has
 one function or several, and one replacement or several; a later one sees what the earlier ones made. A mutant of the gate has no
 function.
@@ -60,8 +60,8 @@ def source(folder, path):
     return (folder / path).read_text()
 
 
-def read_edit(name, lines):
-    """The edit that numbered lines state."""
+def read_edit(crate, name, lines):
+    """The edit of a crate that numbered lines state."""
     functions, replacements, path, old = [], [], None, None
     for number, line in lines:
         word, _, text = line.partition(":")
@@ -79,7 +79,8 @@ def read_edit(name, lines):
             raise Fault(f"line {number} is not one of 'fn:', 'file:', 'old:' and 'new:', in this order")
     if not replacements or old is not None:
         raise Fault("it has no 'old:' line with a 'new:' line" if old is None else "its last 'old:' line has no 'new:' line")
-    if any(it.startswith("specs/") for it, _, _ in replacements) and not (functions and all(it.startswith("laws::") for it in functions)):
+    are_laws = functions and (crate == "laws" or all(it.startswith("laws::") for it in functions))
+    if any(it.startswith("specs/") for it, _, _ in replacements) and not are_laws:
         raise Fault("it is of a definition, and not of laws alone: only an edit of code shows what a contract is worth")
     return Edit(name, tuple(functions), tuple(replacements))
 
@@ -104,11 +105,11 @@ def find_edit(crate, name):
     """A mutant of the gate or of bugs/, by its name."""
     gate, file = ROOT / "crates" / crate / "must-fail" / f"{name}.edit", ROOT / "bugs" / f"{crate}.edits"
     if gate.is_file():
-        return read_edit(name, list(enumerate(gate.read_text().splitlines(), 1)))
+        return read_edit(crate, name, list(enumerate(gate.read_text().splitlines(), 1)))
     lines = blocks(file).get(name) if file.is_file() else None
     if lines is None:
         raise Fault(f"{crate}/{name}: no such mutant in bugs/{crate}.edits or crates/{crate}/must-fail/")
-    return read_edit(name, lines)
+    return read_edit(crate, name, lines)
 
 
 def enclosing(lines, place):

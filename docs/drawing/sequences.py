@@ -69,7 +69,7 @@ def helped_round():
 
 def passed_request():
     """A request that one agent sends to the owner's."""
-    service = number(r"const MAX_APPLICATION_MILLIS: u64 = ([\d_]+);", "crates/agent/src/applications.rt")
+    service = number(r"const MAX_APPLICATION_MILLIS: u64 = ([\d_]+);", "crates/agent_application/src/applications.rt")
     other = limit("other")
     actors = ["client", "agent A", "agent B, the owner", "service of B"]
     steps = [

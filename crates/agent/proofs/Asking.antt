@@ -27,7 +27,8 @@ use Rattle.line_service.specs.Answering.{AnswersInput, IsSilent, Responds, Stays
 use Rattle.line_service.specs.declared.inputs.Input.{Input}
 use Rattle.line_service.specs.declared.inputs.Input.TheVariants as input
 use Rattle.agent.specs.Asking.{AsksFor, answerer, handler_of, notes_asking, notes_call}
-use Rattle.agent.specs.Calling.{AnyAnswer, AnyHandling, AnyTimes, Calling, HasMade, hash_of}
+use Rattle.agent_application.specs.Applications.{AnyHandling}
+use Rattle.agent.specs.Calling.{AnyAnswer, AnyTimes, Calling, HasMade, hash_of}
 use Rattle.agent.specs.Onces.{Noted, notes_send, unnoted}
 use Rattle.agent.specs.Serving.{IsAnsweredHere, RespondsAsking, asks}
 use Rattle.agent.specs.declared.links.NotedHandler.{NotedHandler}

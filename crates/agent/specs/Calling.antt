@@ -10,7 +10,6 @@ use Rattle.locked_node.specs.Passes.{NodePass}
 use Rattle.peer_core.specs.Acts.{OfActs, Just, Nothing, Makes, looked}
 use Rattle.peer_core.specs.Errors.{error_of_node}
 use Rattle.peer_core.specs.Forwarding.{Times}
-use Rattle.peer_core.specs.Handling.{MayHandle}
 use Rattle.peer_core.specs.Links.{MayAnswer}
 use Rattle.peer_core.specs.Parts.{Part, IsOfLock}
 
@@ -45,10 +44,6 @@ pub record HasMade (So : OfActs Sha256Hash) (old new : Calling) : Type 0 where
 -- other nodes may answer anything
 abbrev pub AnyAnswer : MayAnswer
 AnyAnswer to message answer = Unit {0}
-
--- a handler may answer anything
-abbrev pub AnyHandling : MayHandle
-AnyHandling keys body answer = Unit {0}
 
 -- the system's clock may tell any moment, and may have waited until any
 abbrev pub AnyTimes : Times

@@ -1,6 +1,5 @@
 pub mod Admissions
 pub mod Answers
-pub mod Applications
 pub mod Asking
 pub mod Calling
 pub mod Connections

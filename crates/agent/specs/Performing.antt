@@ -31,7 +31,8 @@ use Rattle.agent_core.specs.declared.passing.Outgoing.TheVariants.{Body}
 use Rattle.agent_core.specs.declared.refusals.Refusal.{Refusal}
 use Rattle.agent_core.specs.declared.refusals.Refusal.TheVariants as refusal
 use Rattle.agent.specs.Asking.{answerer, notes_asking}
-use Rattle.agent.specs.Calling.{AnyAnswer, AnyHandling, AnyTimes, Looks, hash_number, hash_of}
+use Rattle.agent_application.specs.Applications.{AnyHandling}
+use Rattle.agent.specs.Calling.{AnyAnswer, AnyTimes, Looks, hash_number, hash_of}
 use Rattle.agent.specs.Onces.{Noted, notes_send, unnoted}
 use Rattle.agent_http.specs.Replies.{IsOpenText, IsText}
 use Rattle.agent_http.specs.declared.replies.Reply.{Reply}

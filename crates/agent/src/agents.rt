@@ -1,11 +1,11 @@
 //! The state that the threads of an agent share.
 ghost use Rattle.std.specs.Prelude.{◌≡◌, ◌*◌, ◌/◌};
 
-use crate::applications::Application;
 use crate::callers::{Caller, Passes};
 use crate::host_files::Hosts;
 use crate::rejections::Refused;
 use crate::tellers::Teller;
+use agent_application::Application;
 use agent_core::{Counts, KeptCounts, PortCounts, Watch};
 use agent_state::{
     Count, Counters, Host, Logger, MAX_QUESTIONS, Notices, Process, Waiting, Watchers,

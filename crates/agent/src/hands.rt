@@ -4,12 +4,12 @@ ghost use Rattle.agent.specs.Asking.{handler_of};
 ghost use Rattle.agent.specs.Serving.{IsAnsweredHere, IsServed, asks};
 
 use crate::agents::Agent;
-use crate::applications::Limited;
 use crate::callers::Caller;
 use crate::links::NotedHandler;
 use crate::peer_links::PeerLink;
 use crate::peers::{Job, next_request, send_back};
 use crate::relays::{line_after, millis_left, relay, relay_link};
+use agent_application::Limited;
 use agent_state::Host;
 use change_core::Moment;
 use crossbeam_channel::Receiver;

@@ -6,7 +6,6 @@ mod acceptors;
 mod admissions;
 mod agents;
 mod api;
-mod applications;
 mod callers;
 mod connections;
 mod errors;

@@ -4,7 +4,7 @@ ghost use Rattle.std.specs.Duration.{as_nanos};
 ghost use Rattle.agent.specs.Performing.{early_refusal};
 
 use crate::agents::Agent;
-use crate::applications::Limited;
+use agent_application::Limited;
 use agent_core::Refusal;
 use agent_state::{Count, Host};
 use change_core::Moment;

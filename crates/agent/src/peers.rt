@@ -5,11 +5,11 @@ ghost use Rattle.agent.specs.Serving.{is_request};
 
 use crate::admissions::admit;
 use crate::agents::Agent;
-use crate::applications::{Joining, Overloaded};
 use crate::callers::Caller;
 use crate::lines::hear_own;
 use crate::peer_links::PeerLink;
 use crate::rejections::input_of;
+use agent_application::{Joining, Overloaded};
 use agent_state::Host;
 use change_core::Moment;
 use cluster_core::{Deadline, Timed, send_owned_line};

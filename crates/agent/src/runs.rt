@@ -1,5 +1,5 @@
 //! The run of an agent, from its settings to its end.
-ghost use Rattle.std.specs.Prelude.{◌≡◌, ◌||◌, ◌/◌, ◌*◌, ◌^◌, ◌++◌, ◌∷◌, [], Err, IfErr, IfOk, IfSome, IsFalse, IsNone, IsSome, IsTrue, Ok, OnOk, min};
+ghost use Rattle.std.specs.Prelude.{◌≡◌, ◌||◌, ◌/◌, ◌*◌, ◌^◌, ◌++◌, ◌∷◌, [], Err, IfErr, IfOk, IfSome, IsFalse, IsNone, IsSome, IsTrue, Ok, OnOk, is_some, min};
 ghost use Rattle.std.specs.Duration.{as_nanos};
 ghost use Rattle.std.specs.Io.KnownBytes.{Appends};
 ghost use Rattle.change_core.specs.Address.{ip_of};
@@ -12,7 +12,6 @@ ghost use Rattle.wire_json.specs.Input.{AppendsPrefix};
 
 use crate::acceptors::{end_http, set_places, start_http};
 use crate::agents::{Agent, Flag};
-use crate::applications::Application;
 use crate::callers::{Caller, Passes};
 use crate::errors::AgentError;
 use crate::hands::serve_requests;
@@ -25,6 +24,7 @@ use crate::rounds::make_rounds;
 use crate::services::{await_service, watch_service};
 use crate::settings::Settings;
 use crate::tellers::{Teller, start_notices};
+use agent_application::{Application, ApplicationOptions};
 use agent_core::Watch;
 use agent_http::Kept;
 use agent_state::{
@@ -134,6 +134,19 @@ fn passes_of<R: System>(rt: &R, alloc: Global, settings: &Settings) -> Result<Pa
     Ok(Passes::new(Arc::new(alloc, node)?, passes))
 }
 
+/// Returns the options of the application of the settings.
+fn options_of(settings: &Settings) -> ApplicationOptions
+    ensures own { result.own ≡ settings.now.address }
+    ensures at { result.at ≡ settings.now.app }
+    ensures whole { result.any_request ≡ is_some settings.now.key_field }
+{
+    ApplicationOptions {
+        own: settings.address,
+        at: settings.app,
+        any_request: settings.key_field.is_some(),
+    }
+}
+
 /// Makes the application of the settings.
 fn application_of<R: System>(
     rt: &R,
@@ -143,7 +156,8 @@ fn application_of<R: System>(
     settings: &Settings,
 ) -> Result<Application<R>, AllocError> {
     let log = share_log(log)?;
-    Ok(Application::new(*rt, alloc, log, stopwatch, settings))
+    let options = options_of(settings);
+    Ok(Application::new(*rt, alloc, log, stopwatch, options))
 }
 
 /// Returns the time limits of the settings: where any request is passed on, a line has more time, since it may be longer.

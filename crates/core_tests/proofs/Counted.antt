@@ -12,8 +12,8 @@ use Rattle.peer_core.specs.Handling.{Handled, between}
 use Rattle.peer_core.specs.Links.{MayAnswer, Went}
 use Rattle.peer_core.specs.Resending.{SendsRequest}
 use Rattle.peer_core.specs.Serving.{Serves, message_from}
-use Rattle.system_laws.specs.Ending.{TextsAreDone}
-use Rattle.system_laws.specs.Owning.{by_message, LooksSo, OneHandles}
+use Rattle.laws.specs.Ending.{TextsAreDone}
+use Rattle.laws.specs.Owning.{by_message, LooksSo, OneHandles}
 
 module _ {L H A : Type 0} (hash_of : H → List ℕ → ℕ) (Came : MayAnswer) (went : Went L) (handled : Handled A) where
   -- of two nodes that serve a Forward, and name owners by the same servers, one does not call its handler

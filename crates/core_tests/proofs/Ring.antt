@@ -8,8 +8,8 @@ use Rattle.node_core.specs.Agreement.{Agree}
 use Rattle.node_core.specs.Invariant.{IsNode, IsSeen}
 use Rattle.node_core.specs.Node.{Node, Seen}
 use Rattle.node_core.specs.World.{placed_at}
-use Rattle.cluster_laws.specs.Convergence.{Nodes, IsThere, AreNodes, Takes, CallsTake, Exchange, ExchangeStep, ExchangeRun, GathersThenBroadcasts, HaveConverged, NodesConverge, ConvergedAgree, at_itself}
-use Rattle.cluster_laws.specs.Reconciliation.{TakesAllOf}
+use Rattle.laws.specs.Convergence.{Nodes, IsThere, AreNodes, Takes, CallsTake, Exchange, ExchangeStep, ExchangeRun, GathersThenBroadcasts, HaveConverged, NodesConverge, ConvergedAgree, at_itself}
+use Rattle.laws.specs.Reconciliation.{TakesAllOf}
 
 -- b takes all of a, then c of b, then a of c, and so again
 pub record TwoRounds {H : Type 0} (a b c a' b' c' : Node H) : Type 0 where

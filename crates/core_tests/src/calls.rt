@@ -1,13 +1,13 @@
 //! The calls of a node and what it answers to them, as plain data, so that they are put into tables.
-use crate::shared::{Ip, Row, address, batch, incarnation, moment, news, put, vec_of};
+use crate::shared::{
+    Host, Ip, Row, address, batch, change, incarnation, made, moment, news, put, vec_of,
+};
 // Names from `locked_node`, since its user names that crate alone.
 use locked_node::{
     Address, Change, Changes, Content, Digest, Entry, Kind, Message, News, NodeError, NodeLost,
     NodeOutcome, Received, Running, Said, Sourced, Status, StopCause, Weight,
 };
 use node_core::{Event, KeyBytes, Reply};
-use std::alloc::Global;
-use std::env::Env;
 use std::process::Abort;
 
 /// A call of a node, at moment 0 if none is given.
@@ -96,8 +96,8 @@ pub(crate) enum Told<'a> {
 /// The name of an example, its calls, and the reply to each.
 pub(crate) type Calls = (&'static str, &'static [(Call, Told<'static>)]);
 
-fn key(rt: &(impl Env + Abort), alloc: Global, text: &str) -> KeyBytes {
-    let mut bytes = vec_of(rt, alloc, text.len());
+fn key(rt: &impl Host, text: &str) -> KeyBytes {
+    let mut bytes = vec_of(rt, text.len());
     for byte in text.as_bytes() {
         put(rt, &mut bytes, *byte);
     }
@@ -105,19 +105,18 @@ fn key(rt: &(impl Env + Abort), alloc: Global, text: &str) -> KeyBytes {
 }
 
 /// The call that processes one change.
-fn taking(rt: &(impl Env + Abort), alloc: Global, given: &Sourced, now: u64) -> Event {
-    let now = moment(rt, now);
-    let mut list = vec_of(rt, alloc, 1);
-    put(rt, &mut list, *given);
-    Event::Take(Changes::from_vec(list).ok().expect(rt, "changes"), now)
+fn taking(rt: &impl Host, given: Sourced, now: u64) -> Event {
+    let (given, now) = ([given], moment(rt, now));
+    Event::Take(made!(rt, Changes::from_slice(rt.alloc(), &given)), now)
 }
 
 /// The change with another node as its source, at an incarnation.
 fn said_by(rt: &impl Abort, source: Ip, at: u64, row: Row) -> Sourced {
-    let mut given = news(rt, row);
-    given.source = address(rt, source);
-    given.source_incarnation = incarnation(rt, at);
-    given
+    Sourced {
+        change: change(rt, row),
+        source: address(rt, source),
+        source_incarnation: incarnation(rt, at),
+    }
 }
 
 /// The change with this weight.
@@ -127,31 +126,26 @@ fn weighty(rt: &impl Abort, row: Row, weight: u8) -> Sourced {
     given
 }
 
-/// The Join of a member.
-fn join(rt: &(impl Env + Abort), alloc: Global, row: Row) -> Message {
-    let (source, at, _) = row;
-    let source = address(rt, source);
-    let source_incarnation = incarnation(rt, at);
-    let checksum = Digest::new([0; 32]);
-    let changes = batch(rt, alloc, &[row]);
+/// A message of a member at an incarnation.
+fn message(rt: &impl Abort, source: Ip, at: u64, content: Content) -> Message {
     Message {
-        source,
-        source_incarnation,
-        content: Content::Join(News { checksum, changes }),
+        source: address(rt, source),
+        source_incarnation: incarnation(rt, at),
+        content,
     }
 }
 
+/// The Join of a member.
+fn join(rt: &impl Host, row: Row) -> Message {
+    let (checksum, changes) = (Digest::new([0; 32]), batch(rt, &[row]));
+    message(rt, row.0, row.1, Content::Join(News { checksum, changes }))
+}
+
 /// A Ping without changes.
-fn ping(rt: &(impl Env + Abort), alloc: Global, source: Ip, at: u64, checksum: &str) -> Message {
-    let source = address(rt, source);
-    let source_incarnation = incarnation(rt, at);
+fn ping(rt: &impl Host, source: Ip, at: u64, checksum: &str) -> Message {
     let checksum = Digest::parse(checksum).expect(rt, "a digest");
-    let changes = batch(rt, alloc, &[]);
-    Message {
-        source,
-        source_incarnation,
-        content: Content::Ping(News { checksum, changes }),
-    }
+    let changes = batch(rt, &[]);
+    message(rt, source, at, Content::Ping(News { checksum, changes }))
 }
 
 /// The making of a PingReq.
@@ -172,17 +166,15 @@ fn ping_req_ack(rt: &impl Abort, requester: Ip, target: Ip) -> Event {
 }
 
 /// The event of a call.
-pub(crate) fn event(rt: &(impl Env + Abort), alloc: Global, call: Call) -> Event {
+pub(crate) fn event(rt: &impl Host, call: Call) -> Event {
     let start = moment(rt, 0);
     match call {
-        Call::Take(row, now) => taking(rt, alloc, &news(rt, row), now),
-        Call::TakeFrom(source, at, row) => taking(rt, alloc, &said_by(rt, source, at, row), 0),
-        Call::TakeWeighty(row, weight) => taking(rt, alloc, &weighty(rt, row, weight), 0),
-        Call::TakeAll(rows) => Event::Take(batch(rt, alloc, rows), start),
-        Call::Join(row, now) => Event::Receive(join(rt, alloc, row), moment(rt, now)),
-        Call::Ping(source, at, checksum) => {
-            Event::Receive(ping(rt, alloc, source, at, checksum), start)
-        }
+        Call::Take(row, now) => taking(rt, news(rt, row), now),
+        Call::TakeFrom(source, at, row) => taking(rt, said_by(rt, source, at, row), 0),
+        Call::TakeWeighty(row, weight) => taking(rt, weighty(rt, row, weight), 0),
+        Call::TakeAll(rows) => Event::Take(batch(rt, rows), start),
+        Call::Join(row, now) => Event::Receive(join(rt, row), moment(rt, now)),
+        Call::Ping(source, at, checksum) => Event::Receive(ping(rt, source, at, checksum), start),
         Call::MakeJoin => Event::JoinMessage,
         Call::MakePing(target) => Event::PingTo(address(rt, target)),
         Call::MakePingReq(helper, target) => ping_req(rt, helper, target),
@@ -203,8 +195,8 @@ pub(crate) fn event(rt: &(impl Env + Abort), alloc: Global, call: Call) -> Event
         Call::Own => Event::Own,
         Call::Member(ip) => Event::Member(address(rt, ip)),
         Call::Len => Event::Len,
-        Call::Owner(text) => Event::Owner(key(rt, alloc, text)),
-        Call::Owners(text, count) => Event::Owners(key(rt, alloc, text), count),
+        Call::Owner(text) => Event::Owner(key(rt, text)),
+        Call::Owners(text, count) => Event::Owners(key(rt, text), count),
         Call::Members => Event::Members,
         Call::Text => Event::DigestText,
         Call::Digest => Event::Digest,
@@ -216,19 +208,13 @@ fn ip(address: Address) -> Ip {
 }
 
 fn row(change: &Change) -> Row {
-    (
-        ip(change.address),
-        change.incarnation.number(),
-        change.status,
-    )
+    let incarnation = change.incarnation.number();
+    (ip(change.address), incarnation, change.status)
 }
 
 /// The change, if it has weight 1.
 fn light(change: &Change) -> Option<Row> {
-    match change.weight.number() {
-        1 => Some(row(change)),
-        _ => None,
-    }
+    (change.weight.number() == 1).then_some(row(change))
 }
 
 fn changed(change: &Change) -> Told<'static> {
@@ -248,17 +234,12 @@ fn maybe(change: &Option<Change>) -> Told<'static> {
 
 /// The member at a place of a list.
 fn named_at(list: &[Address], place: usize) -> Option<Ip> {
-    match list.get(place) {
-        Some(address) => Some(ip(*address)),
-        None => None,
-    }
+    Some(ip(*list.get(place)?))
 }
 
 fn named(list: &[Address]) -> Told<'static> {
-    Told::Named(
-        list.len(),
-        [named_at(list, 0), named_at(list, 1), named_at(list, 2)],
-    )
+    let first = [named_at(list, 0), named_at(list, 1), named_at(list, 2)];
+    Told::Named(list.len(), first)
 }
 
 fn listed(list: &[Change]) -> Told<'static> {
@@ -269,7 +250,7 @@ fn listed(list: &[Change]) -> Told<'static> {
 }
 
 /// The change at a place of a message's, if it has weight 1.
-fn carried_at(list: &[Sourced], place: usize) -> Option<Carried> {
+fn news_at(list: &[Sourced], place: usize) -> Option<Carried> {
     let one = list.get(place)?;
     let row = light(&one.change)?;
     Some((row, ip(one.source), one.source_incarnation.number()))
@@ -288,18 +269,9 @@ fn carried(message: &Message) -> &[Sourced] {
 
 fn sent(applied: usize, message: &Message) -> Told<'static> {
     let list = carried(message);
-    let first = [
-        carried_at(list, 0),
-        carried_at(list, 1),
-        carried_at(list, 2),
-    ];
-    Told::Message(
-        applied,
-        ip(message.source),
-        message.content.kind(),
-        list.len(),
-        first,
-    )
+    let (source, kind) = (ip(message.source), message.content.kind());
+    let first = [news_at(list, 0), news_at(list, 1), news_at(list, 2)];
+    Told::Message(applied, source, kind, list.len(), first)
 }
 
 fn received(received: &Received) -> Told<'static> {
@@ -342,10 +314,7 @@ fn heard(outcome: &NodeOutcome) -> Told<'static> {
 }
 
 fn running(probe: &Running) -> Told<'static> {
-    let waiting = match probe.waiting {
-        Some(helper) => Some(ip(helper)),
-        None => None,
-    };
+    let waiting = probe.waiting.map(|helper| ip(helper));
     Told::Running(probe.number, ip(probe.target), waiting)
 }
 
@@ -390,20 +359,15 @@ pub(crate) fn read(reply: &Reply) -> Told<'static> {
 
 /// Whether a reply tells this, to the text.
 pub(crate) fn is_told(reply: &Reply, wanted: Told<'_>) -> bool {
-    match reply {
-        Reply::DigestText(Ok(text)) => match wanted {
-            Told::Text(said) => text.as_str() == said,
-            _ => false,
-        },
+    match (reply, wanted) {
+        (Reply::DigestText(Ok(text)), Told::Text(said)) => text.as_str() == said,
         _ => read(reply) == wanted,
     }
 }
 
 /// Whether a reply tells this; it is let go.
 pub(crate) fn tells(reply: Reply, wanted: Told<'_>) -> bool {
-    let is_so = is_told(&reply, wanted);
-    drop(reply);
-    is_so
+    is_told(&reply, wanted)
 }
 
 /// What a call is to be answered when it is made again, if it was out of memory: what it applied by then it does not

@@ -30,8 +30,7 @@ pub(crate) const A_AT_7: Start = Start {
 const B_AT_1: Start = Start {
     own: B,
     created: 1,
-    weight: 1,
-    max: 4096,
+    ..A_AT_7
 };
 
 /// Stays alive, whatever it is given about itself.
@@ -66,7 +65,7 @@ pub(crate) const EXHAUSTED: Case = case! { A_AT_7, "exhausted":
 };
 
 /// Is full with the first of three changes, and continues about the members that it has.
-pub(crate) const FULL: Case = case! { Start { own: A, created: 7, weight: 1, max: 2 }, "full":
+pub(crate) const FULL: Case = case! { Start { max: 2, ..A_AT_7 }, "full":
     Call::TakeAll(&[(B, 1, Status::Alive), (D, 1, Status::Alive), (C, 1, Status::Alive)]), Told::Stopped(1, StopCause::Full);
     Call::Member(B), Told::Held(1, Status::Alive);
     Call::Member(C), Told::Nothing;
@@ -87,10 +86,8 @@ pub(crate) const GREATEST: Case = case! { A_AT_7, "greatest":
 
 /// 10.0.0.1:1 at 7, with weight 2.
 pub(crate) const HEAVY_A: Start = Start {
-    own: A,
-    created: 7,
     weight: 2,
-    max: 4096,
+    ..A_AT_7
 };
 
 /// Keeps its weight where it refutes, and where it leaves.
@@ -252,18 +249,9 @@ pub(crate) const SENDS: Case = case! { A_AT_7, "sends":
     Call::MakePing(B), PINGED;
     Call::MakePingReq(B, C), Told::Message(0, A, Kind::PingReq, 1, BIRTH);
     Call::MakePingReqAck(B, C), Told::Message(0, A, Kind::PingReqAck, 1, BIRTH);
-    Call::MakePing(B), PINGED;
-    Call::MakePing(B), PINGED;
-    Call::MakePing(B), PINGED;
-    Call::MakePing(B), PINGED;
-    Call::MakePing(B), PINGED;
-    Call::MakePing(B), PINGED;
-    Call::MakePing(B), PINGED;
-    Call::MakePing(B), PINGED;
-    Call::MakePing(B), PINGED;
-    Call::MakePing(B), PINGED;
-    Call::MakePing(B), PINGED;
-    Call::MakePing(B), PINGED;
+    Call::MakePing(B), PINGED; Call::MakePing(B), PINGED; Call::MakePing(B), PINGED; Call::MakePing(B), PINGED;
+    Call::MakePing(B), PINGED; Call::MakePing(B), PINGED; Call::MakePing(B), PINGED; Call::MakePing(B), PINGED;
+    Call::MakePing(B), PINGED; Call::MakePing(B), PINGED; Call::MakePing(B), PINGED; Call::MakePing(B), PINGED;
     Call::MakePing(B), Told::Message(0, A, Kind::Ping, 0, NO_NEWS);
 };
 
@@ -286,42 +274,22 @@ const BOTH: &str = "d1a8af2bb895f65a9ccca4d7e53168c4bb18cd81e9fc26727d51cb26d484
 /// Answers fifteen pings by its first entry, and the sixteenth, whose sender still has another digest, by all members.
 pub(crate) const TELLS_ALL: Case = case! { B_AT_1, "tells all":
     Call::TakeFrom(A, 7, (C, 1, Status::Alive)), Told::Taken(1, 0);
-    Call::Ping(A, 7, NOBODY), ACKED;
-    Call::Ping(A, 7, NOBODY), ACKED;
-    Call::Ping(A, 7, NOBODY), ACKED;
-    Call::Ping(A, 7, NOBODY), ACKED;
-    Call::Ping(A, 7, NOBODY), ACKED;
-    Call::Ping(A, 7, NOBODY), ACKED;
-    Call::Ping(A, 7, NOBODY), ACKED;
-    Call::Ping(A, 7, NOBODY), ACKED;
-    Call::Ping(A, 7, NOBODY), ACKED;
-    Call::Ping(A, 7, NOBODY), ACKED;
-    Call::Ping(A, 7, NOBODY), ACKED;
-    Call::Ping(A, 7, NOBODY), ACKED;
-    Call::Ping(A, 7, NOBODY), ACKED;
-    Call::Ping(A, 7, NOBODY), ACKED;
-    Call::Ping(A, 7, NOBODY), ACKED;
+    Call::Ping(A, 7, NOBODY), ACKED; Call::Ping(A, 7, NOBODY), ACKED; Call::Ping(A, 7, NOBODY), ACKED;
+    Call::Ping(A, 7, NOBODY), ACKED; Call::Ping(A, 7, NOBODY), ACKED; Call::Ping(A, 7, NOBODY), ACKED;
+    Call::Ping(A, 7, NOBODY), ACKED; Call::Ping(A, 7, NOBODY), ACKED; Call::Ping(A, 7, NOBODY), ACKED;
+    Call::Ping(A, 7, NOBODY), ACKED; Call::Ping(A, 7, NOBODY), ACKED; Call::Ping(A, 7, NOBODY), ACKED;
+    Call::Ping(A, 7, NOBODY), ACKED; Call::Ping(A, 7, NOBODY), ACKED; Call::Ping(A, 7, NOBODY), ACKED;
     Call::Ping(A, 7, NOBODY), ACKED_ALL;
 };
 
 /// Answers fifteen pings by its first entry, then by no change if the sender has its digest, and else by all members.
 pub(crate) const SYNCHRONISES: Case = case! { B_AT_1, "synchronises":
     Call::TakeFrom(A, 7, (C, 1, Status::Alive)), Told::Taken(1, 0);
-    Call::Ping(A, 7, NOBODY), ACKED;
-    Call::Ping(A, 7, NOBODY), ACKED;
-    Call::Ping(A, 7, NOBODY), ACKED;
-    Call::Ping(A, 7, NOBODY), ACKED;
-    Call::Ping(A, 7, NOBODY), ACKED;
-    Call::Ping(A, 7, NOBODY), ACKED;
-    Call::Ping(A, 7, NOBODY), ACKED;
-    Call::Ping(A, 7, NOBODY), ACKED;
-    Call::Ping(A, 7, NOBODY), ACKED;
-    Call::Ping(A, 7, NOBODY), ACKED;
-    Call::Ping(A, 7, NOBODY), ACKED;
-    Call::Ping(A, 7, NOBODY), ACKED;
-    Call::Ping(A, 7, NOBODY), ACKED;
-    Call::Ping(A, 7, NOBODY), ACKED;
-    Call::Ping(A, 7, NOBODY), ACKED;
+    Call::Ping(A, 7, NOBODY), ACKED; Call::Ping(A, 7, NOBODY), ACKED; Call::Ping(A, 7, NOBODY), ACKED;
+    Call::Ping(A, 7, NOBODY), ACKED; Call::Ping(A, 7, NOBODY), ACKED; Call::Ping(A, 7, NOBODY), ACKED;
+    Call::Ping(A, 7, NOBODY), ACKED; Call::Ping(A, 7, NOBODY), ACKED; Call::Ping(A, 7, NOBODY), ACKED;
+    Call::Ping(A, 7, NOBODY), ACKED; Call::Ping(A, 7, NOBODY), ACKED; Call::Ping(A, 7, NOBODY), ACKED;
+    Call::Ping(A, 7, NOBODY), ACKED; Call::Ping(A, 7, NOBODY), ACKED; Call::Ping(A, 7, NOBODY), ACKED;
     Call::Ping(A, 7, BOTH), Told::Message(0, B, Kind::Ack, 0, NO_NEWS);
     Call::Ping(A, 7, NOBODY), ACKED_ALL;
 };
@@ -356,23 +324,10 @@ pub(crate) const LOOKS_UP: Case = case! { A_AT_7, "looks up":
 };
 
 /// All of these, save what a node looks up.
-pub(crate) const CASES: [Case; 15] = [
-    REFUTES,
-    LEAVES,
-    EXHAUSTED,
-    FULL,
-    GREATEST,
-    WEIGHTY,
-    RUNS_OUT,
-    DOES_NOT_RUN_OUT,
-    PROBES_ANOTHER,
-    ASKS_ONE,
-    ASKS_THREE,
-    SENDS,
-    TELLS_ALL,
-    SYNCHRONISES,
-    LETS_JOIN,
-];
+pub(crate) const CASES: [Case; 15] = rows! {
+    REFUTES; LEAVES; EXHAUSTED; FULL; GREATEST; WEIGHTY; RUNS_OUT; DOES_NOT_RUN_OUT;
+    PROBES_ANOTHER; ASKS_ONE; ASKS_THREE; SENDS; TELLS_ALL; SYNCHRONISES; LETS_JOIN;
+};
 
 /// A node that learns of another.
 pub(crate) const HEARS_OF_B: Calls = calls! { "hears of b":

@@ -1,8 +1,8 @@
-//! The tests of `node_core`, `cluster_laws`, `forward_core`, `locked_node`, `system_laws`, `cli_core` and `cli_words`. They are in one
-//! crate, since a check of it reads the libraries below once.
+//! The tests of `node_core`, `forward_core`, `locked_node`, `laws`, `cli_core` and `cli_words`. They are in one crate, since a check of it
+//! reads the libraries below once.
 #![tactic(auto)]
 
-/// The rows of a table, each on a line and ended by a semicolon.
+/// The rows of a table, each ended by a semicolon.
 #[cfg(test)]
 macro_rules! rows {
     ($($($cell:expr),+;)+) => {

@@ -1,4 +1,4 @@
-//! The tests of `locked_node`, and of the theorems of `system_laws`.
+//! The tests of `locked_node`, and of the theorems about whole systems.
 mod counted;
 mod nodes;
 mod probing;

@@ -6,12 +6,76 @@ ghost use Rattle.change_core.specs.Address.{address_of};
 use change_core::{Address, Change, Digest, Incarnation, Moment, Sourced, Status, Weight};
 use detector_core::Running;
 use hash_ring::{PointHash, SumHash};
-use node_core::{Config, NodeError, NodeState, StopCause, Stopped, Taken, View};
-use std::alloc::Global;
+use node_core::{Config, NodeState, View};
 use std::env::Env;
 use std::process::Abort;
+use std::sync::Wait;
 use std::sync::atomic::{AtomicU64, Ordering};
+use std::thread::Threads;
 use wire_json::Changes;
+
+/// What a test needs of the system.
+pub(crate) trait Host: AllocGlobal + Env + Abort {}
+
+impl<R: AllocGlobal + Env + Abort> Host for R {}
+
+/// The same for a test of nodes that are shared.
+pub(crate) trait Waiter: Host + Wait {}
+
+impl<R: Host + Wait> Waiter for R {}
+
+/// The same with threads.
+pub(crate) trait System: Waiter + Threads + Sync {}
+
+impl<R: Waiter + Threads + Sync> System for R {}
+
+/// Checks that an allocation is to fail, as the environment says if `scripts/fail-alloc` runs a test: else a call was out of memory
+/// though there was enough. It takes no memory.
+pub(crate) fn check_refused(rt: &(impl Env + Abort)) {
+    let mut number = [0u8; 32];
+    assert!(rt; rt.var("FAIL_ALLOC", &mut number).is_ok());
+}
+
+/// What is made: by the first attempt, or by another if an allocation failed.
+macro_rules! made {
+    ($rt:expr, $attempt:expr) => {
+        match $attempt {
+            Ok(made) => made,
+            Err(_) => {
+                crate::shared::check_refused($rt);
+                $attempt.ok().expect($rt, "memory")
+            }
+        }
+    };
+}
+
+/// What is found: by the first attempt, or by another if an allocation failed.
+macro_rules! found {
+    ($rt:expr, $attempt:expr) => {
+        match $attempt {
+            Some(found) => found,
+            None => {
+                crate::shared::check_refused($rt);
+                $attempt.expect($rt, "memory")
+            }
+        }
+    };
+}
+
+/// Checks that an attempt is completed: the first, or another if an allocation failed.
+macro_rules! check_again {
+    ($rt:expr, $attempt:expr $(, $told:literal)?) => {{
+        let is_so = $attempt || {
+            crate::shared::check_refused($rt);
+            $attempt
+        };
+        assert!($rt; is_so $(, $told)?);
+    }};
+}
+
+pub(crate) use check_again;
+pub(crate) use found;
+pub(crate) use made;
 
 /// A member `10.0.0.n:1`, by its first number.
 pub(crate) type Ip = u32;
@@ -72,8 +136,8 @@ pub(crate) fn news(rt: &impl Abort, row: Row) -> Sourced {
 }
 
 /// These changes, each said by its own member.
-pub(crate) fn batch(rt: &(impl Env + Abort), alloc: Global, rows: &[Row]) -> Changes {
-    let mut list = vec_of(rt, alloc, rows.len());
+pub(crate) fn batch(rt: &impl Host, rows: &[Row]) -> Changes {
+    let mut list = vec_of(rt, rows.len());
     for row in rows {
         put(rt, &mut list, news(rt, *row));
     }
@@ -81,12 +145,8 @@ pub(crate) fn batch(rt: &(impl Env + Abort), alloc: Global, rows: &[Row]) -> Cha
 }
 
 /// A list with room for this many.
-pub(crate) fn vec_of<T: Drop>(rt: &(impl Env + Abort), alloc: Global, count: usize) -> Vec<T> {
-    if let Ok(list) = Vec::with_capacity(alloc, count) {
-        return list;
-    }
-    check_refused(rt);
-    Vec::with_capacity(alloc, count).ok().expect(rt, "room")
+pub(crate) fn vec_of<T: Drop>(rt: &impl Host, count: usize) -> Vec<T> {
+    made!(rt, Vec::with_capacity(rt.alloc(), count))
 }
 
 /// Puts another into a list that has room for it.
@@ -102,32 +162,9 @@ pub(crate) fn config(max_members: usize) -> Config {
     config
 }
 
-/// Checks that an allocation is to fail, as the environment says if `scripts/fail-alloc` runs a test: else a call was out of memory
-/// though there was enough. It takes no memory.
-pub(crate) fn check_refused(rt: &(impl Env + Abort)) {
-    let mut number = [0u8; 32];
-    assert!(rt; rt.var("FAIL_ALLOC", &mut number).is_ok());
-}
-
-/// What a call of a node answers. It is made again if an allocation failed, which happens only if `scripts/fail-alloc` runs the test.
-macro_rules! again {
-    ($rt:expr, $call:expr) => {
-        match $call {
-            Err(NodeError::Memory) => {
-                crate::shared::check_refused($rt);
-                $call
-            }
-            answer => answer,
-        }
-    };
-}
-
-pub(crate) use again;
-
 /// A node of this configuration at moment 0.
 pub(crate) fn configured<H: PointHash>(
-    rt: &(impl Env + Abort),
-    alloc: Global,
+    rt: &impl Host,
     config: &Config,
     hash: H,
     own: Ip,
@@ -135,71 +172,38 @@ pub(crate) fn configured<H: PointHash>(
 ) -> NodeState<H>
     ensures { result.node.own ≡ address_of own 1 }
 {
-    let own = address(rt, own);
-    let created = incarnation(rt, number);
-    let start = moment(rt, 0);
-    let made = again!(
+    let (own, created, start) = (address(rt, own), incarnation(rt, number), moment(rt, 0));
+    made!(
         rt,
-        NodeState::new(alloc, *config, hash, own, created, 1, start)
-    );
-    made.ok().expect(rt, "a node")
+        NodeState::new(rt.alloc(), *config, hash, own, created, 1, start)
+    )
 }
 
 /// A node with 4,096 members at most.
-pub(crate) fn node(
-    rt: &(impl Env + Abort),
-    alloc: Global,
-    own: Ip,
-    number: u64,
-) -> NodeState<SumHash> {
-    configured(rt, alloc, &config(4096), SumHash, own, number)
+pub(crate) fn node(rt: &impl Host, own: Ip, number: u64) -> NodeState<SumHash> {
+    configured(rt, &config(4096), SumHash, own, number)
 }
 
 /// What a node holds: the digest of all its members, itself among them, and its probe.
 pub(crate) type Held = (Digest, Option<Running>);
 
 /// What a node holds.
-pub(crate) fn held<H: PointHash>(rt: &(impl Env + Abort), node: &NodeState<H>) -> Held {
-    let digest = again!(rt, node.digest()).ok().expect(rt, "a digest");
-    (digest, node.running())
+pub(crate) fn held<H: PointHash>(rt: &impl Host, node: &NodeState<H>) -> Held {
+    (made!(rt, node.digest()), node.running())
 }
 
-/// Takes one change. If an allocation fails the node is unchanged, and the next try continues.
-fn take<H: PointHash>(
-    rt: &(impl Env + Abort),
-    node: &mut NodeState<H>,
-    given: &Sourced,
-    now: Moment,
-) -> Result<Taken, Stopped> {
-    let before = held(rt, node);
-    match node.take(&[*given], now) {
-        Err(
-            Stopped {
-                taken: 0,
-                cause: StopCause::Memory,
-            },
-        ) => {
-            check_refused(rt);
-            assert!(rt; held(rt, node) == before);
-            node.take(&[*given], now)
-        }
-        answer => answer,
+/// Takes one change at a moment, which is not refused. If an allocation fails the node is unchanged, and the next try continues.
+pub(crate) fn hear<H: PointHash>(rt: &impl Host, node: &mut NodeState<H>, row: Row, now: u64) {
+    let (given, now, before) = ([news(rt, row)], moment(rt, now), held(rt, node));
+    if node.take(&given, now).is_err() {
+        check_refused(rt);
+        assert!(rt; held(rt, node) == before);
+        assert!(rt; node.take(&given, now).is_ok());
     }
 }
 
-/// Takes one change at a moment, which is not refused.
-pub(crate) fn hear<H: PointHash>(
-    rt: &(impl Env + Abort),
-    node: &mut NodeState<H>,
-    row: Row,
-    now: u64,
-) {
-    let answer = take(rt, node, &news(rt, row), moment(rt, now));
-    assert!(rt; answer.is_ok());
-}
-
-pub(crate) fn view<H: PointHash>(rt: &(impl Env + Abort), node: &mut NodeState<H>) -> View<H> {
-    again!(rt, node.view()).ok().expect(rt, "a view")
+pub(crate) fn view<H: PointHash>(rt: &impl Host, node: &mut NodeState<H>) -> View<H> {
+    made!(rt, node.view())
 }
 
 /// A sum of bytes that counts how often it is asked for.

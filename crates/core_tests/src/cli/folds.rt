@@ -4,7 +4,7 @@ use crate::cli::changes::{
     ALIVE, ELEVENTH, FAULTY, FIRST, HEAVIER, HEAVIEST, LATER, LEAVE, SUSPECT, THIRD, TOMBSTONE,
 };
 use crate::cli::fakes::{ALL, Form, Page, Reader, Source};
-use crate::cli::runs::{OWNER, TWO_OWNERS, check, check_lines, run};
+use crate::cli::runs::{OWNER, TWO_OWNERS, check, check_all, check_lines, run};
 use cli_core::{OwnerWords, RunError, Subcommand, SubcommandError};
 
 pub const LATER_FOLDED: &str =
@@ -78,7 +78,7 @@ const FOLDED: [(&[&str], &str); 13] = rows! {
 #[test]
 fn folds_in_any_order_and_number(rt: HostRuntime) {
     for (lines, text) in &FOLDED {
-        check_lines(&rt, rt.alloc(), &Subcommand::Fold, *lines, (*text, ""));
+        check_lines(&rt, &Subcommand::Fold, *lines, (*text, ""));
     }
 }
 
@@ -88,15 +88,9 @@ fn folds_in_any_order_and_number(rt: HostRuntime) {
 fn refuses_a_line_at_fault(rt: HostRuntime) {
     for (line, text) in &AT_FAULT {
         let lines = [ALIVE, *line, "[]"];
-        check_lines(&rt, rt.alloc(), &Subcommand::Fold, &lines, ("", *text));
+        check_lines(&rt, &Subcommand::Fold, &lines, ("", *text));
     }
-    check_lines(
-        &rt,
-        rt.alloc(),
-        &OWNER,
-        &[ALIVE, "[]"],
-        ("", "line 2: not an object"),
-    );
+    check_lines(&rt, &OWNER, &[ALIVE, "[]"], ("", "line 2: not an object"));
 }
 
 /// Subcommands, what they read, and the error text.
@@ -111,15 +105,7 @@ const TOO_MUCH: [(Subcommand<'static>, Source<'static>, &str); 4] = rows! {
 #[test]
 fn refuses_too_many_and_too_long(rt: HostRuntime) {
     for (subcommand, source, text) in &TOO_MUCH {
-        let reader = Reader::new(*source, ALL);
-        check(
-            &rt,
-            rt.alloc(),
-            subcommand,
-            reader,
-            Page::new(ALL),
-            ("", *text),
-        );
+        check_all(&rt, subcommand, *source, ("", *text));
     }
 }
 
@@ -129,42 +115,28 @@ fn refuses_too_many_and_too_long(rt: HostRuntime) {
 fn holds_as_many_as_may_be(rt: HostRuntime) {
     let mut page = Page::new(ALL);
     let reader = Reader::new(Source::Many(Form::Change, 4096), ALL);
-    let ended = run(&rt, rt.alloc(), &Subcommand::Fold, reader, &mut page);
+    let ended = run(&rt, &Subcommand::Fold, reader, &mut page);
     assert!(rt; ended == Err(SubcommandError::Run(RunError::CannotWrite)));
-    assert!(rt;
-        page.text()
-            .starts_with("10.0.0.0:1alive1;10.0.0.1:1alive1;")
-    );
+    let start = "10.0.0.0:1alive1;10.0.0.1:1alive1;";
+    assert!(rt; page.text().starts_with(start));
 }
 
 /// How many bytes the lines `ALIVE` and `LATER` have, with their newlines.
 const TWO_LINES: usize = ALIVE.len() + LATER.len() + 2;
 
-/// The error text of a reader of these two lines that fails after this many bytes.
-fn read_failed(left: usize) -> &'static str {
-    if left <= ALIVE.len() {
-        "line 1: read failed"
-    } else if left < TWO_LINES {
-        "line 2: read failed"
-    } else {
-        "line 3: read failed"
-    }
-}
-
 #[test]
 fn writes_nothing_after_a_failed_read(rt: HostRuntime) {
     for left in 0..=TWO_LINES {
         let reader = Reader::new(Source::Lines(&[ALIVE, LATER]), left);
-        let wanted = ("", read_failed(left));
-        check(
-            &rt,
-            rt.alloc(),
-            &Subcommand::Fold,
-            reader,
-            Page::new(ALL),
-            wanted,
-        );
-        check(&rt, rt.alloc(), &OWNER, reader, Page::new(ALL), wanted);
+        let text = match left {
+            _ if left <= ALIVE.len() => "line 1: read failed",
+            _ if left < TWO_LINES => "line 2: read failed",
+            _ => "line 3: read failed",
+        };
+        let wanted = ("", text);
+        for subcommand in &[Subcommand::Fold, OWNER] {
+            check(&rt, subcommand, reader, Page::new(ALL), wanted);
+        }
     }
 }
 
@@ -208,14 +180,8 @@ fn owners(count: u8, key: &str) -> Subcommand<'_> {
 #[test]
 fn names_the_owners_of_a_key(rt: HostRuntime) {
     for (lines, count, key, text) in &OWNERS {
-        check_lines(&rt, rt.alloc(), &owners(*count, *key), *lines, (*text, ""));
+        check_lines(&rt, &owners(*count, *key), *lines, (*text, ""));
     }
     let lesser_first = ("10.0.0.1:1\n10.0.0.1:11\n", "");
-    check_lines(
-        &rt,
-        rt.alloc(),
-        &TWO_OWNERS,
-        &[ELEVENTH, FIRST],
-        lesser_first,
-    );
+    check_lines(&rt, &TWO_OWNERS, &[ELEVENTH, FIRST], lesser_first);
 }

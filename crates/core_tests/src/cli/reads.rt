@@ -2,7 +2,7 @@
 ghost use Rattle.std.specs.Prelude.{◌≡◌, ◌<◌, ◌^◌, vec_len};
 ghost use Rattle.hash_ring.specs.Points.{IsReplicas};
 
-use crate::shared::check_refused;
+use crate::shared::{Host, check_refused, made};
 use change_core::{Address, Incarnation, MAX_NUMBER, Weight};
 use cli_core::{
     AskAnyWords, AskWords, ClusterCommand, MembersForm, MembersWords, OwnerWords, ServeWords,
@@ -10,8 +10,6 @@ use cli_core::{
 };
 use cli_words::{ClusterWords, Words, WordsError, read_words};
 use cluster_names::ClusterName;
-use std::alloc::Global;
-use std::env::Env;
 use std::process::Abort;
 
 /// Words, at most this many.
@@ -40,15 +38,11 @@ pub fn words_in<'a, 'b>(rt: &impl Abort, line: &'a str, words: &'b mut Line<'a>)
 /// # Errors
 ///
 /// - The error of the arguments, but not that of a failed allocation.
-pub fn read<'a>(
-    rt: &(impl Env + Abort),
-    alloc: Global,
-    words: &'a [&'a str],
-) -> Result<Words<'a>, WordsError> {
-    match read_words(alloc, words) {
+pub fn read<'a>(rt: &impl Host, words: &'a [&'a str]) -> Result<Words<'a>, WordsError> {
+    match read_words(rt.alloc(), words) {
         Err(WordsError::OutOfMemory) => {
             check_refused(rt);
-            read_words(alloc, words)
+            read_words(rt.alloc(), words)
         }
         ended => ended,
     }
@@ -70,20 +64,17 @@ const READ: [(&str, Subcommand<'static>); 11] = rows! {
 };
 
 /// That the arguments of a line have this command.
-fn asks(rt: &(impl Env + Abort), alloc: Global, line: &str, wanted: Words<'_>) {
+fn asks(rt: &impl Host, line: &str, wanted: Words<'_>) {
     let mut words = NO_WORDS;
-    let words = read(rt, alloc, words_in(rt, line, &mut words));
-    let is_so = matches!(&words, Ok(words) if *words == wanted);
-    drop(words);
-    drop(wanted);
-    assert!(rt; is_so, "{line}");
+    let words = read(rt, words_in(rt, line, &mut words));
+    assert!(rt; matches!(&words, Ok(words) if *words == wanted), "{line}");
 }
 
 /// With no words it is `fold`; `owner` has one owner and 100 points for each server where nothing is told.
 #[test]
 fn reads_the_words(rt: HostRuntime) {
     for (line, wanted) in &READ {
-        asks(&rt, rt.alloc(), *line, Words::Lines(*wanted));
+        asks(&rt, *line, Words::Lines(*wanted));
     }
 }
 
@@ -92,111 +83,82 @@ fn local(rt: &impl Abort) -> Address {
     Address::new(0x7f00_0001, 1).expect(rt, "an address")
 }
 
-/// A command that speaks to nodes whose cluster has no name.
-fn unnamed<'a>(command: ClusterCommand<'a>) -> Words<'a> {
-    Words::Cluster(ClusterWords {
-        command,
-        cluster: None,
-    })
+/// That the arguments of a line have this command, which speaks to nodes whose cluster has no name.
+fn unnamed(rt: &impl Host, line: &str, command: ClusterCommand<'_>) {
+    let cluster = None;
+    asks(rt, line, Words::Cluster(ClusterWords { command, cluster }));
 }
 
-/// One that speaks to nodes of the cluster blue.
-fn of_blue<'a>(rt: &(impl Env + Abort), alloc: Global, command: ClusterCommand<'a>) -> Words<'a> {
-    let cluster = match ClusterName::new(alloc, "blue") {
-        Ok(name) => name,
-        Err(_) => {
-            check_refused(rt);
-            ClusterName::new(alloc, "blue").ok().expect(rt, "memory")
-        }
-    };
-    Words::Cluster(ClusterWords { command, cluster })
+/// The same of nodes of the cluster blue.
+fn of_blue(rt: &impl Host, line: &str, command: ClusterCommand<'_>) {
+    let cluster = made!(rt, ClusterName::new(rt.alloc(), "blue"));
+    asks(rt, line, Words::Cluster(ClusterWords { command, cluster }));
 }
 
 /// A request to 127.0.0.1:1.
-fn ask<'a>(rt: &impl Abort, key: &'a str, body: &'a str) -> Words<'a> {
-    unnamed(ClusterCommand::Ask(AskWords {
-        address: local(rt),
-        key,
-        body,
-    }))
+fn ask<'a>(rt: &impl Abort, key: &'a str, body: &'a str) -> ClusterCommand<'a> {
+    let address = local(rt);
+    ClusterCommand::Ask(AskWords { address, key, body })
 }
 
 /// A request for b to the owner of the key k, by 127.0.0.1:1 and with this many points of a server.
-fn ask_any(rt: &impl Abort, replicas: u32, sum: bool) -> Words<'static>
+fn ask_any(rt: &impl Abort, replicas: u32, sum: bool) -> ClusterCommand<'static>
     requires { IsReplicas replicas }
 {
-    unnamed(ClusterCommand::AskAny(AskAnyWords {
-        host: local(rt),
+    let (host, key, body) = (local(rt), "k", "b");
+    ClusterCommand::AskAny(AskAnyWords {
+        host,
         replicas,
         sum,
-        key: "k",
-        body: "b",
-    }))
+        key,
+        body,
+    })
+}
+
+/// A question for the members of 127.0.0.1:1.
+fn members(rt: &impl Abort, form: MembersForm) -> ClusterCommand<'static> {
+    let host = local(rt);
+    ClusterCommand::Members(MembersWords { host, form })
 }
 
 /// `ask`, `ask --any`, `members`, `members --lines` and `tell` at 127.0.0.1:1, with empty texts, and with texts behind `--` that begin
 /// with `-`.
 #[test]
 fn reads_the_words_of_questions(rt: HostRuntime) {
-    let (alloc, host) = (rt.alloc(), local(&rt));
-    let line = "ringpop ask 127.0.0.1:1 k b";
-    asks(&rt, alloc, line, ask(&rt, "k", "b"));
-    asks(&rt, alloc, "ringpop ask 127.0.0.1:1  ", ask(&rt, "", ""));
+    unnamed(&rt, "ringpop ask 127.0.0.1:1 k b", ask(&rt, "k", "b"));
+    unnamed(&rt, "ringpop ask 127.0.0.1:1  ", ask(&rt, "", ""));
     let line = "ringpop ask 127.0.0.1:1 -- -k -b";
-    asks(&rt, alloc, line, ask(&rt, "-k", "-b"));
+    unnamed(&rt, line, ask(&rt, "-k", "-b"));
     let line = "ringpop ask --any 127.0.0.1:1 k b";
-    asks(&rt, alloc, line, ask_any(&rt, 100, false));
+    unnamed(&rt, line, ask_any(&rt, 100, false));
     let line = "ringpop ask --any --replicas 2 --sum 127.0.0.1:1 k b";
-    asks(&rt, alloc, line, ask_any(&rt, 2, true));
-    let members = ClusterCommand::Members(MembersWords {
-        host,
-        form: MembersForm::Digest,
-    });
+    unnamed(&rt, line, ask_any(&rt, 2, true));
     let line = "ringpop members 127.0.0.1:1";
-    asks(&rt, alloc, line, unnamed(members));
-    let lines = ClusterCommand::Members(MembersWords {
-        host,
-        form: MembersForm::Lines,
-    });
+    unnamed(&rt, line, members(&rt, MembersForm::Digest));
     let line = "ringpop members --lines 127.0.0.1:1";
-    asks(&rt, alloc, line, unnamed(lines));
-    let table = ClusterCommand::Members(MembersWords {
-        host,
-        form: MembersForm::Table,
-    });
+    unnamed(&rt, line, members(&rt, MembersForm::Lines));
     let line = "ringpop members --table 127.0.0.1:1";
-    asks(&rt, alloc, line, unnamed(table));
-    let tell = ClusterCommand::Tell(host);
-    asks(&rt, alloc, "ringpop tell 127.0.0.1:1", unnamed(tell));
+    unnamed(&rt, line, members(&rt, MembersForm::Table));
+    let line = "ringpop tell 127.0.0.1:1";
+    unnamed(&rt, line, ClusterCommand::Tell(local(&rt)));
 }
 
 /// The same with the name of a cluster, before and behind other options.
 #[test]
 fn reads_the_name_of_the_cluster(rt: HostRuntime) {
-    let (alloc, host) = (rt.alloc(), local(&rt));
-    let question = ClusterCommand::Ask(AskWords {
-        address: host,
-        key: "k",
-        body: "b",
-    });
     let line = "ringpop ask --cluster blue 127.0.0.1:1 k b";
-    asks(&rt, alloc, line, of_blue(&rt, alloc, question));
-    let members = ClusterCommand::Members(MembersWords {
-        host,
-        form: MembersForm::Lines,
-    });
+    of_blue(&rt, line, ask(&rt, "k", "b"));
     let line = "ringpop members --cluster=blue --lines 127.0.0.1:1";
-    asks(&rt, alloc, line, of_blue(&rt, alloc, members));
-    let tell = ClusterCommand::Tell(host);
+    of_blue(&rt, line, members(&rt, MembersForm::Lines));
     let line = "ringpop tell 127.0.0.1:1 --cluster blue";
-    asks(&rt, alloc, line, of_blue(&rt, alloc, tell));
+    of_blue(&rt, line, ClusterCommand::Tell(local(&rt)));
 }
 
 /// What serves at 127.0.0.1:1 where only the incarnation 1 and one connection are told, but for the hosts.
-fn least_server(rt: &impl Abort, hosts: Vec<Address>) -> Words<'static>
+fn least_server(rt: &impl Abort, hosts: Vec<Address>) -> ClusterCommand<'static>
     requires { vec_len hosts < 2 ^ 32 }
 {
-    unnamed(ClusterCommand::Serve(ServeWords {
+    ClusterCommand::Serve(ServeWords {
         address: local(rt),
         incarnation: Incarnation::new(1).expect(rt, "an incarnation"),
         requests: 1,
@@ -209,12 +171,12 @@ fn least_server(rt: &impl Abort, hosts: Vec<Address>) -> Words<'static>
         heal: false,
         sum: false,
         hosts,
-    }))
+    })
 }
 
 /// What serves at 127.0.0.1:1 with the greatest numbers.
-fn greatest_server(rt: &impl Abort, alloc: Global) -> Words<'static> {
-    unnamed(ClusterCommand::Serve(ServeWords {
+fn greatest_server(rt: &impl Host) -> ClusterCommand<'static> {
+    ClusterCommand::Serve(ServeWords {
         address: local(rt),
         incarnation: Incarnation::new(MAX_NUMBER).expect(rt, "an incarnation"),
         requests: 1_000_000,
@@ -226,36 +188,31 @@ fn greatest_server(rt: &impl Abort, alloc: Global) -> Words<'static> {
         piggyback: 1000,
         heal: true,
         sum: true,
-        hosts: Vec::new(alloc),
-    }))
+        hosts: Vec::new(rt.alloc()),
+    })
 }
 
 /// 10.0.0.2:7946, and 127.0.0.1:1 twice.
-fn three_hosts(rt: &(impl Env + Abort), alloc: Global) -> Vec<Address>
+fn three_hosts(rt: &impl Host) -> Vec<Address>
     ensures { vec_len result ≡ 3 }
 {
-    let other = Address::new(0x0a00_0002, 7946).expect(rt, "an address");
-    if let Ok(hosts) = vec![in alloc; other, local(rt), local(rt)] {
-        return hosts;
-    }
-    check_refused(rt);
-    let Ok(hosts) = vec![in alloc; other, local(rt), local(rt)] else {
-        panic!(rt; "out of memory")
-    };
-    hosts
+    let (other, own) = (
+        Address::new(0x0a00_0002, 7946).expect(rt, "an address"),
+        local(rt),
+    );
+    made!(rt, vec![in rt.alloc(); other, own, own])
 }
 
 /// `serve` at 127.0.0.1:1 of incarnation 1 for one connection: 2 workers, no rounds, 100 points, SHA-256, weight 1, no host; with the
 /// greatest of each; with three hosts, which stay in their order.
 #[test]
 fn reads_the_words_of_serve(rt: HostRuntime) {
-    let alloc = rt.alloc();
     let line = "ringpop serve 127.0.0.1:1 1 1";
-    asks(&rt, alloc, line, least_server(&rt, Vec::new(alloc)));
+    unnamed(&rt, line, least_server(&rt, Vec::new(rt.alloc())));
     let line =
         "ringpop serve --workers=16 --period 9007199254740991 --replicas=1000 --sum --weight 8 --per-message 4096 --piggyback=1000 --heal 127.0.0.1:1 9007199254740991 1000000";
-    asks(&rt, alloc, line, greatest_server(&rt, alloc));
+    unnamed(&rt, line, greatest_server(&rt));
     // its hosts stay in their order
     let line = "ringpop serve 127.0.0.1:1 1 1 10.0.0.2:7946 127.0.0.1:1 127.0.0.1:1";
-    asks(&rt, alloc, line, least_server(&rt, three_hosts(&rt, alloc)));
+    unnamed(&rt, line, least_server(&rt, three_hosts(&rt)));
 }

@@ -1,31 +1,16 @@
 //! Arguments that are refused, and the error text.
 
 use crate::cli::reads::{NO_WORDS, read, words_in};
-use crate::shared::check_refused;
+use crate::shared::{Host, check_again, check_refused, made};
 use cli_words::{WordsError, bad_argument, words_not_text};
-use std::alloc::Global;
-use std::env::Env;
-use std::process::Abort;
-
-/// The text of an error.
-fn told(rt: &(impl Env + Abort), alloc: Global, fault: &WordsError) -> String {
-    let said = match format!(in alloc; "{fault}") {
-        Err(_) => {
-            check_refused(rt);
-            format!(in alloc; "{fault}")
-        }
-        said => said,
-    };
-    said.ok().expect(rt, "a text")
-}
 
 /// That the error of arguments starts with this text, and ends the program with status 2.
-fn begins(rt: &(impl Env + Abort), alloc: Global, fault: WordsError, text: &str) {
-    let said = told(rt, alloc, &fault);
-    let is_so = said.as_str().starts_with(text) && fault.status() == 2;
-    drop(said);
-    drop(fault);
-    assert!(rt; is_so, "{text}");
+fn begins(rt: &impl Host, fault: WordsError, text: &str) {
+    let said = made!(rt, format!(in rt.alloc(); "{fault}"));
+    assert!(rt;
+        said.as_str().starts_with(text) && fault.status() == 2,
+        "{text}"
+    );
 }
 
 /// Arguments of `serve`, and the start of their error text.
@@ -54,23 +39,22 @@ const REFUSED_SERVERS: [(&str, &str); 22] = rows! {
     "ringpop serve 127.0.0.1:1 1 1 127.0.0.1:1 ", "ringpop: bad address\n";
 };
 
-/// That these arguments are refused, and the error starts with this text.
-fn is_refused(rt: &(impl Env + Abort), alloc: Global, line: &str, text: &str) {
-    let mut words = NO_WORDS;
-    let words = words_in(rt, line, &mut words);
-    let Err(fault) = read(rt, alloc, words) else {
-        panic!(rt; "not refused: {text}")
-    };
-    begins(rt, alloc, fault, text);
+/// That the arguments of each line are refused, and the error starts with this text.
+fn check_refusals(rt: &impl Host, rows: &[(&str, &str)]) {
+    for (line, text) in rows {
+        let mut words = NO_WORDS;
+        let Err(fault) = read(rt, words_in(rt, *line, &mut words)) else {
+            panic!(rt; "not refused: {text}")
+        };
+        begins(rt, fault, *text);
+    }
 }
 
 /// `serve` without one of its words, or with a number one outside its range: refused by `clap`. Behind that the node's own address, and
 /// any of its hosts that is none: `ringpop: bad address`.
 #[test]
 fn refuses_the_words_of_a_server(rt: HostRuntime) {
-    for (line, text) in &REFUSED_SERVERS {
-        is_refused(&rt, rt.alloc(), *line, *text);
-    }
+    check_refusals(&rt, &REFUSED_SERVERS);
 }
 
 /// Arguments of `agent` with an address that is none, and the error text.
@@ -89,9 +73,7 @@ const REFUSED_AGENTS: [(&str, &str); 9] = rows! {
 /// `agent` with an address that is none is refused, and the text names the first such argument as the help writes it.
 #[test]
 fn names_an_agents_bad_address(rt: HostRuntime) {
-    for (line, text) in &REFUSED_AGENTS {
-        is_refused(&rt, rt.alloc(), *line, *text);
-    }
+    check_refusals(&rt, &REFUSED_AGENTS);
 }
 
 /// Arguments, and the start of their error text.
@@ -146,9 +128,7 @@ const REFUSED_WORDS: [(&str, &str); 39] = rows! {
 /// that an address that is none: `ringpop: bad address`, status 2.
 #[test]
 fn refuses_words(rt: HostRuntime) {
-    for (line, text) in &REFUSED_WORDS {
-        is_refused(&rt, rt.alloc(), *line, *text);
-    }
+    check_refusals(&rt, &REFUSED_WORDS);
 }
 
 /// Lines with an argument that has to be an address and is not, or without one, and the text that names it.
@@ -164,11 +144,11 @@ const BAD_ARGUMENTS: [(&str, &str); 7] = rows! {
 };
 
 /// Whether this text names the argument of a line that is not an address; the empty text where there is none.
-fn is_named(rt: &(impl Env + Abort), alloc: Global, line: &str, text: &str) -> bool {
+fn is_named(rt: &impl Host, line: &str, text: &str) -> bool {
     let mut words = NO_WORDS;
     let words = words_in(rt, line, &mut words);
-    match bad_argument(alloc, words) {
-        Ok(Some(bad)) => match format!(in alloc; "{bad}") {
+    match bad_argument(rt.alloc(), words) {
+        Ok(Some(bad)) => match format!(in rt.alloc(); "{bad}") {
             Ok(said) => said.as_str() == text,
             Err(_) => false,
         },
@@ -181,10 +161,7 @@ fn is_named(rt: &(impl Env + Abort), alloc: Global, line: &str, text: &str) -> b
 #[test]
 fn names_bad_arguments(rt: HostRuntime) {
     for (line, text) in &BAD_ARGUMENTS {
-        if !is_named(&rt, rt.alloc(), *line, *text) {
-            check_refused(&rt);
-            assert!(rt; is_named(&rt, rt.alloc(), *line, *text), "{text}");
-        }
+        check_again!(&rt, is_named(&rt, *line, *text), "{text}");
     }
 }
 
@@ -198,6 +175,5 @@ fn refuses_words_that_are_not_text(rt: HostRuntime) {
         }
         fault => fault,
     };
-    let text = "error: the words are not UTF-8\n";
-    begins(&rt, rt.alloc(), fault, text);
+    begins(&rt, fault, "error: the words are not UTF-8\n");
 }

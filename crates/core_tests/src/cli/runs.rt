@@ -1,15 +1,12 @@
 //! A subcommand that is run, and what it is to write and to end with.
 
 use crate::cli::fakes::{ALL, Page, Reader, Source};
-use crate::shared::check_refused;
+use crate::shared::{Host, check_refused};
 use cli_core::{
     LineError, OwnerWords, RunError, ScriptError, SimError, SimWords, Subcommand, SubcommandError,
     subcommand_run,
 };
-use std::alloc::Global;
-use std::env::Env;
 use std::io::Write;
-use std::process::Abort;
 
 /// Scripts for small rings that hash by the sum of bytes.
 pub const SIM: Subcommand<'static> = Subcommand::Sim(SimWords {
@@ -36,7 +33,7 @@ pub const TWO_OWNERS: Subcommand<'static> = Subcommand::Owner(OwnerWords {
 /// Whether an allocation failed. The error names the line that the reader had started, or none once it has given all; a
 /// script has answered all lines before that one, and nothing else has written anything.
 fn is_refused_memory(
-    rt: &(impl Env + Abort),
+    rt: &impl Host,
     subcommand: &Subcommand<'_>,
     ended: Result<(), SubcommandError>,
     reader: &Reader<'_>,
@@ -67,56 +64,61 @@ fn is_refused_memory(
 ///
 /// - The error of the subcommand, but not that of a failed allocation.
 pub fn run<'a>(
-    rt: &(impl Env + Abort),
-    alloc: Global,
+    rt: &impl Host,
     subcommand: &Subcommand<'_>,
     reader: Reader<'_>,
     page: &mut Page<'a>,
 ) -> Result<(), SubcommandError> {
     let (mut first, mut second) = (reader, reader);
     let before = *page;
-    let ended = subcommand_run(alloc, subcommand, &mut first, page);
+    let ended = subcommand_run(rt.alloc(), subcommand, &mut first, page);
     if !is_refused_memory(rt, subcommand, ended, &first, page) {
         return ended;
     }
     *page = before;
     // What was shown is shown no more.
     let _ = page.flush();
-    subcommand_run(alloc, subcommand, &mut second, page)
+    subcommand_run(rt.alloc(), subcommand, &mut second, page)
 }
 
 /// Checks what a subcommand writes to a page, and the text of the error that it ends with, or of none if that is empty.
 pub fn check(
-    rt: &(impl Env + Abort),
-    alloc: Global,
+    rt: &impl Host,
     subcommand: &Subcommand<'_>,
     reader: Reader<'_>,
-    page: Page<'_>,
+    mut page: Page<'_>,
     wanted: (&str, &str),
 ) {
     let (output, text) = wanted;
-    let mut page = page;
-    let ended = run(rt, alloc, subcommand, reader, &mut page);
+    let ended = run(rt, subcommand, reader, &mut page);
     let mut said = Page::new(ALL);
     if let Err(fault) = ended {
         let _ = write!(said, "{fault}");
     }
+    let (wrote, said) = (page.text(), said.text());
     assert!(rt;
-        page.text() == output && said.text() == text && ended.is_ok() == text.is_empty(),
-        "{output}{text} came: {}{}",
-        page.text(),
-        said.text()
+        wrote == output && said == text && ended.is_ok() == text.is_empty(),
+        "{output}{text} came: {wrote}{said}"
     );
+}
+
+/// Checks what a subcommand does with all that it reads, where there is room for all that it writes.
+pub fn check_all(
+    rt: &impl Host,
+    subcommand: &Subcommand<'_>,
+    source: Source<'_>,
+    wanted: (&str, &str),
+) {
+    let reader = Reader::new(source, ALL);
+    check(rt, subcommand, reader, Page::new(ALL), wanted);
 }
 
 /// Checks what a subcommand does with lines.
 pub fn check_lines(
-    rt: &(impl Env + Abort),
-    alloc: Global,
+    rt: &impl Host,
     subcommand: &Subcommand<'_>,
     lines: &[&str],
     wanted: (&str, &str),
 ) {
-    let reader = Reader::new(Source::Lines(lines), ALL);
-    check(rt, alloc, subcommand, reader, Page::new(ALL), wanted);
+    check_all(rt, subcommand, Source::Lines(lines), wanted);
 }

@@ -5,11 +5,9 @@ use crate::cli::fakes::{ALL, Page, Reader, Source};
 use crate::cli::folds::LATER_FOLDED;
 use crate::cli::runs::{OWNER, SIM, TWO_OWNERS, check, check_lines};
 use crate::cli::scripts::{SHORT, SHORT_ANSWERED};
-use crate::shared::check_refused;
+use crate::shared::{Host, check_again};
 use cli_core::{OwnerWords, SimWords, Subcommand, fold_run, hash_text, owner_run, sim_run};
 use std::alloc::Global;
-use std::env::Env;
-use std::process::Abort;
 
 /// Scripts for rings of 100 points that hash by SHA-256.
 const SHA_SIM: Subcommand<'static> = Subcommand::Sim(SimWords {
@@ -38,7 +36,7 @@ const RUNS: [(Subcommand<'static>, &[&str], &str, &str); 12] = rows! {
 #[test]
 fn runs_the_subcommand_that_is_named(rt: HostRuntime) {
     for (subcommand, lines, output, text) in &RUNS {
-        check_lines(&rt, rt.alloc(), subcommand, *lines, (*output, *text));
+        check_lines(&rt, subcommand, *lines, (*output, *text));
     }
 }
 
@@ -53,27 +51,23 @@ enum Call {
 
 /// Whether a call ends well, with what it is to write or answer.
 fn ends_well(alloc: Global, call: Call) -> bool {
-    let mut page = Page::new(ALL);
+    let (mut page, replicas, sum) = (Page::new(ALL), 2, true);
     let mut lines = Reader::new(Source::Lines(&[ALIVE, LATER]), ALL);
     match call {
-        Call::Fold => {
-            fold_run(alloc, &mut lines, &mut page).is_ok() && page.text() == LATER_FOLDED
-        }
+        Call::Fold => fold_run(alloc, &mut lines, &mut page).is_ok() && page.text() == LATER_FOLDED,
         Call::Owner => {
+            let (count, key) = (1, "zzzz1");
             let words = OwnerWords {
-                count: 1,
-                replicas: 2,
-                sum: true,
-                key: "zzzz1",
+                count,
+                replicas,
+                sum,
+                key,
             };
             let ended = owner_run(alloc, &words, &mut lines, &mut page);
             ended.is_ok() && page.text() == "10.0.0.2:1\n"
         }
         Call::Sim => {
-            let words = SimWords {
-                replicas: 2,
-                sum: true,
-            };
+            let words = SimWords { replicas, sum };
             let mut script = Reader::new(Source::Lines(&SHORT), ALL);
             let ended = sim_run(alloc, &words, &mut script, &mut page);
             ended.is_ok() && page.text() == SHORT_ANSWERED
@@ -89,10 +83,7 @@ fn ends_well(alloc: Global, call: Call) -> bool {
 #[test]
 fn each_subcommand_has_a_call_of_its_own(rt: HostRuntime) {
     for call in [Call::Fold, Call::Owner, Call::Sim, Call::Hash] {
-        if !ends_well(rt.alloc(), call) {
-            check_refused(&rt);
-            assert!(rt; ends_well(rt.alloc(), call));
-        }
+        check_again!(&rt, ends_well(rt.alloc(), call));
     }
 }
 
@@ -124,7 +115,7 @@ fn front(text: &str, len: usize) -> &str {
 }
 
 /// Checks what is written to each page that has not room for all, and to one that has just that.
-fn check_rooms(rt: &(impl Env + Abort), alloc: Global, written: &Written) {
+fn check_rooms(rt: &impl Host, written: &Written) {
     let (subcommand, lines, whole, _) = written;
     for room in 0..=whole.len() {
         let reader = Reader::new(Source::Lines(*lines), ALL);
@@ -134,37 +125,36 @@ fn check_rooms(rt: &(impl Env + Abort), alloc: Global, written: &Written) {
             ""
         };
         let wanted = (front(whole, room), text);
-        check(rt, alloc, subcommand, reader, Page::new(room), wanted);
+        check(rt, subcommand, reader, Page::new(room), wanted);
     }
 }
 
 #[test]
 fn folds_what_the_writer_takes(rt: HostRuntime) {
-    check_rooms(&rt, rt.alloc(), &FOLDED);
+    check_rooms(&rt, &FOLDED);
 }
 
 /// Each subcommand by its words writes what is its own, and `line N: ` and the text of its own fault, or `cannot write`, comes back.
 #[test]
 fn writes_what_the_writer_takes(rt: HostRuntime) {
     for written in &WRITTEN {
-        check_rooms(&rt, rt.alloc(), written);
+        check_rooms(&rt, written);
     }
 }
 
 /// Checks what is written to a page that fails to flush.
-fn check_flush(rt: &(impl Env + Abort), alloc: Global, written: &Written) {
+fn check_flush(rt: &impl Host, written: &Written) {
     let (subcommand, lines, _, flushed) = written;
     let mut page = Page::new(ALL);
     page.can_flush = false;
     let reader = Reader::new(Source::Lines(*lines), ALL);
-    let wanted = (*flushed, "cannot write");
-    check(rt, alloc, subcommand, reader, page, wanted);
+    check(rt, subcommand, reader, page, (*flushed, "cannot write"));
 }
 
 #[test]
 fn tells_of_a_failed_flush(rt: HostRuntime) {
-    check_flush(&rt, rt.alloc(), &FOLDED);
+    check_flush(&rt, &FOLDED);
     for written in &WRITTEN {
-        check_flush(&rt, rt.alloc(), written);
+        check_flush(&rt, written);
     }
 }

@@ -8,23 +8,21 @@ ghost use Rattle.locked_node.specs.Passes.{Fits};
 ghost use Rattle.message_core.specs.declared.messages.Content.TheVariants.{Forward, Reply};
 ghost use Rattle.message_core.specs.declared.messages.Message.{Message};
 ghost use Rattle.peer_core.specs.Acts.{Makes};
-ghost use Rattle.system_laws.specs.Owning.{LooksSo};
+ghost use Rattle.laws.specs.Owning.{LooksSo};
 
 use crate::forward::views::{keys, text};
 use crate::locked::nodes::{Caller, Shared, hear, let_go, pair};
 use crate::locked::probing::Cut;
-use crate::shared::{A, B, C, D, Ip, Row, address, check_refused, incarnation};
+use crate::shared::{A, B, C, D, Host, Ip, Row, Waiter, address, check_refused, incarnation, made};
+use laws::{done_once, one_owner};
 use locked_node::{Address, Message, Moment, Status, SumHash};
 use peer_core::laws::handlings;
 use peer_core::{
     Clock, ClusterError, HandlerFault, HandlerMut, Link, LinkError, Member, handle_or_forward,
 };
 use std::alloc::Global;
-use std::env::Env;
-use std::process::Abort;
 use std::sync::Wait;
 use std::sync::atomic::{AtomicU64, Ordering};
-use system_laws::laws::{done_once, one_owner};
 use turn_lock::LockError;
 use wire_json::{Content, Keys, Text};
 
@@ -82,9 +80,9 @@ impl<'n> Peer<'n> {
     }
 
     /// Serves a message of another node. The handler is called once at most.
-    fn serve<R: Wait>(
+    fn serve(
         &mut self,
-        rt: &R,
+        rt: &impl Wait,
         now: Moment,
         message: &Message,
     ) -> Result<Message, LockError>
@@ -138,7 +136,7 @@ impl<'n> Link for Near<'n> {
 
 impl<'n> Near<'n> {
     /// Serves a message by the node at this address; None if there is none, or its lock refuses.
-    fn served<R: Wait>(&mut self, rt: &R, to: Address, message: &Message) -> Option<Message>
+    fn served(&mut self, rt: &impl Wait, to: Address, message: &Message) -> Option<Message>
         ensures { self.new.failures ≡ self.old.failures }
     {
         let now = Moment::new(0)?;
@@ -187,9 +185,8 @@ impl Clock for Still {
 
 /// Gives a node a request by its own service. A text is that of its own handler, which was called once, or else that of the Reply of the node
 /// that the link noted.
-fn enter<R: Wait + Env + Abort>(
-    rt: &R,
-    alloc: Global,
+fn enter(
+    rt: &impl Waiter,
     node: &Shared,
     pass: &mut Caller,
     near: &mut Near<'_>,
@@ -204,49 +201,36 @@ fn enter<R: Wait + Env + Abort>(
     let clock = Still {
         now: AtomicU64::new(0),
     };
-    let keys = keys(rt, alloc, &[KEY]);
-    let body = text(rt, alloc, "x");
+    let alloc = rt.alloc();
+    let keys = keys(rt, &[KEY]);
+    let body = text(rt, "x");
     handle_or_forward(rt, alloc, node, pass, near, own, &clock, keys, body)
 }
 
 /// Gives a node a request by its own service, once more if an allocation failed, and checks its text; returns how often the node's own handler
 /// was called.
-fn give<R: Wait + Env + Abort>(
-    rt: &R,
-    alloc: Global,
-    node: &Shared,
-    pass: &mut Caller,
-    near: &mut Near<'_>,
-) -> u64
+fn give(rt: &impl Waiter, node: &Shared, pass: &mut Caller, near: &mut Near<'_>) -> u64
     requires { Fits node.now pass.old }
     ensures { Fits node.now pass.new }
 {
     let mut own = Counting { calls: 0 };
-    let answer = match enter(rt, alloc, node, pass, near, &mut own) {
-        Err(_) => {
-            check_refused(rt);
-            enter(rt, alloc, node, pass, near, &mut own)
-        }
-        answer => answer,
-    };
-    let text = answer.ok().expect(rt, "a text");
+    let text = made!(rt, enter(rt, node, pass, near, &mut own));
     assert!(rt; text.as_str() == "x");
-    drop(text);
     own.calls
 }
 
 /// The request as a Forward of a node.
-fn forward<R: Env + Abort>(rt: &R, alloc: Global, source: Address) -> Message {
+fn forward(rt: &impl Host, source: Address) -> Message {
     Message {
         source,
         source_incarnation: incarnation(rt, 7),
-        content: Content::Forward(keys(rt, alloc, &[KEY]), text(rt, alloc, "x")),
+        content: Content::Forward(keys(rt, &[KEY]), text(rt, "x")),
     }
 }
 
 /// Two nodes are sent the same request. If they name owners by the same servers, one of them does not call its handler.
-fn send_both<R: Wait>(
-    rt: &R,
+fn send_both(
+    rt: &impl Wait,
     one: &mut Peer<'_>,
     other: &mut Peer<'_>,
     now: Moment,
@@ -272,7 +256,7 @@ fn is_reply(answer: Result<Message, LockError>) -> bool {
 }
 
 /// Takes what is heard of each of these.
-fn meet<R: Wait + Env + Abort>(rt: &R, node: &Shared, pass: &mut Caller, rows: &[Row; 2])
+fn meet(rt: &impl Waiter, node: &Shared, pass: &mut Caller, rows: &[Row; 2])
     requires { Fits node.now pass.old }
     ensures { Fits node.now pass.new }
 {
@@ -281,25 +265,22 @@ fn meet<R: Wait + Env + Abort>(rt: &R, node: &Shared, pass: &mut Caller, rows: &
 }
 
 /// Sends the first and the second node a Forward, and then the second and the third; returns which of them replied.
-fn send_to_all<R: Wait + Env + Abort>(rt: &R, alloc: Global, near: &mut Near<'_>) -> [bool; 4] {
+fn send_to_all(rt: &impl Waiter, near: &mut Near<'_>) -> [bool; 4] {
     let now = Moment::new(0).expect(rt, "a moment");
-    let message = forward(rt, alloc, address(rt, D));
+    let message = forward(rt, address(rt, D));
     let (a, b) = send_both(rt, &mut near.first, &mut near.second, now, &message);
     let (c, d) = send_both(rt, &mut near.second, &mut near.third, now, &message);
-    drop(message);
     [is_reply(a), is_reply(b), is_reply(c), is_reply(d)]
 }
 
 /// Whether a node holds a member as serving.
-fn holds_as_serving<R: Wait + Abort>(rt: &R, node: &Shared, pass: &mut Caller, ip: Ip) -> bool
+fn holds_as_serving(rt: &impl Waiter, node: &Shared, pass: &mut Caller, ip: Ip) -> bool
     requires { Fits node.now pass.old }
     ensures { Fits node.now pass.new }
 {
-    let held = node
-        .member(rt, pass, address(rt, ip))
-        .ok()
-        .expect(rt, "a turn");
-    held.expect(rt, "an entry").status.serving()
+    let held = node.member(rt, pass, address(rt, ip)).ok();
+    let entry = held.expect(rt, "a turn").expect(rt, "an entry");
+    entry.status.serving()
 }
 
 /// How a request ends that is given to each of three nodes.
@@ -339,7 +320,7 @@ const DIFFER: Wanted = Wanted {
 };
 
 /// Checks how often handlers were called. If an allocation failed, one that is to be called may be called once more or less.
-fn check_calls(rt: &(impl Env + Abort), calls: [u64; 3], wanted: [u64; 3]) {
+fn check_calls(rt: &impl Host, calls: [u64; 3], wanted: [u64; 3]) {
     for (counted, wanted) in calls.iter().zip(wanted.iter()) {
         if *counted != *wanted {
             check_refused(rt);
@@ -349,11 +330,11 @@ fn check_calls(rt: &(impl Env + Abort), calls: [u64; 3], wanted: [u64; 3]) {
 }
 
 /// Gives the request to each of three nodes.
-fn check<R: Wait + Env + Abort>(rt: &R, alloc: Global, wanted: &Wanted) {
-    let alive = Status::Alive;
-    let (a, mut a1, mut a2, _) = pair(rt, alloc, A, 99);
-    let (b, mut b1, mut b2, _) = pair(rt, alloc, B, 99);
-    let (c, mut c1, mut c2, _) = pair(rt, alloc, C, 99);
+fn check(rt: &impl Waiter, wanted: &Wanted) {
+    let (alloc, alive) = (rt.alloc(), Status::Alive);
+    let (a, mut a1, mut a2, _) = pair(rt, A, 99);
+    let (b, mut b1, mut b2, _) = pair(rt, B, 99);
+    let (c, mut c1, mut c2, _) = pair(rt, C, 99);
     meet(rt, &a, &mut a1, &[(B, 7, alive), (C, 7, alive)]);
     meet(rt, &b, &mut b1, &[(A, 7, alive), (C, 7, alive)]);
     meet(rt, &c, &mut c1, &wanted.heard);
@@ -368,13 +349,13 @@ fn check<R: Wait + Env + Abort>(rt: &R, alloc: Global, wanted: &Wanted) {
         failures: 0,
     };
     let own = [
-        give(rt, alloc, &a, &mut a1, &mut near),
-        give(rt, alloc, &b, &mut b1, &mut near),
-        give(rt, alloc, &c, &mut c1, &mut near),
+        give(rt, &a, &mut a1, &mut near),
+        give(rt, &b, &mut b1, &mut near),
+        give(rt, &c, &mut c1, &mut near),
     ];
     check_calls(rt, own, wanted.own);
     check_calls(rt, near.calls(), wanted.passed);
-    let replies = send_to_all(rt, alloc, &mut near);
+    let replies = send_to_all(rt, &mut near);
     if replies != wanted.replies {
         check_refused(rt);
     }
@@ -387,10 +368,10 @@ fn check<R: Wait + Env + Abort>(rt: &R, alloc: Global, wanted: &Wanted) {
 
 #[test]
 fn one_of_three_nodes_handles_each_request(rt: HostRuntime) {
-    check(&rt, rt.alloc(), &AGREED);
+    check(&rt, &AGREED);
 }
 
 #[test]
 fn two_nodes_that_handle_a_key_differ_about_one_of_them(rt: HostRuntime) {
-    check(&rt, rt.alloc(), &DIFFER);
+    check(&rt, &DIFFER);
 }

@@ -2,14 +2,12 @@
 ghost use Rattle.locked_node.specs.Passes.{Fits};
 
 use crate::locked::nodes::{Caller, Shared, alone, hear, let_go};
-use crate::shared::{B, C, D, address, check_refused, moment};
+use crate::shared::{B, C, D, Waiter, address, made, moment};
+use laws::completeness;
 use locked_node::{Address, Message, Status, SumHash};
-use peer_core::{ClusterError, Link, LinkError, Round, gossip_round};
+use peer_core::{Link, LinkError, Round, gossip_round};
 use std::alloc::Global;
-use std::env::Env;
-use std::process::Abort;
 use std::sync::Wait;
-use system_laws::laws::completeness;
 
 /// A link that reaches no node.
 #[derive(Drop)]
@@ -50,25 +48,12 @@ impl Link for Cut {
 }
 
 /// Makes one round; once more if an allocation failed.
-fn round<R: Wait + Env + Abort>(
-    rt: &R,
-    alloc: Global,
-    node: &Shared,
-    pass: &mut Caller,
-    link: &mut Cut,
-) -> Round
+fn round(rt: &impl Waiter, node: &Shared, pass: &mut Caller, link: &mut Cut) -> Round
     requires { Fits node.now pass.old }
     ensures { Fits node.now pass.new }
 {
     let now = moment(rt, 0);
-    let done = match gossip_round(rt, alloc, node, pass, link, now) {
-        Err(ClusterError::Memory) => {
-            check_refused(rt);
-            gossip_round(rt, alloc, node, pass, link, now)
-        }
-        done => done,
-    };
-    done.ok().expect(rt, "a round")
+    made!(rt, gossip_round(rt, rt.alloc(), node, pass, link, now))
 }
 
 /// Whether a round ends with the address as suspected, or as one of which no helper could tell.
@@ -89,7 +74,7 @@ fn noted(found: [bool; 3], done: &Round, sought: &[Address; 3]) -> [bool; 3] {
 }
 
 /// Makes five rounds, and checks that each of three members is found.
-fn check_rounds<R: Wait + Env + Abort>(rt: &R, alloc: Global, node: &Shared, pass: &mut Caller)
+fn check_rounds(rt: &impl Waiter, node: &Shared, pass: &mut Caller)
     requires { Fits node.now pass.old }
     ensures { Fits node.now pass.new }
 {
@@ -98,21 +83,19 @@ fn check_rounds<R: Wait + Env + Abort>(rt: &R, alloc: Global, node: &Shared, pas
     let mut found = [false; 3];
     for i in 0..5u64 {
         let _ = i;
-        let done = round(rt, alloc, node, pass, &mut link);
+        let done = round(rt, node, pass, &mut link);
         found = noted(found, &done, &sought);
-        drop(done);
     }
-    drop(link);
     assert!(rt; found == [true; 3]);
 }
 
 #[test]
 fn five_rounds_find_each_of_three_members(rt: HostRuntime) {
     completeness::<SumHash, Cut>();
-    let (node, mut pass) = alone(&rt, rt.alloc());
+    let (node, mut pass) = alone(&rt);
     hear(&rt, &node, &mut pass, (B, 1, Status::Alive));
     hear(&rt, &node, &mut pass, (C, 1, Status::Alive));
     hear(&rt, &node, &mut pass, (D, 1, Status::Alive));
-    check_rounds(&rt, rt.alloc(), &node, &mut pass);
+    check_rounds(&rt, &node, &mut pass);
     let_go(node, pass);
 }

@@ -11,115 +11,64 @@ use crate::locked::nodes::{Caller, Shared, alone, check, check_calls, hear, let_
 use crate::node::played::{self, begun};
 use crate::node::tests::twenty;
 use crate::node::view_tests::check_view;
-use crate::shared::{A, B, F, Ip, address, change, check_refused};
-use locked_node::{
-    CloseError, LockError, LockedNode, NewError, NodeError, NodeState, Status, SumHash, View,
-};
-use std::alloc::Global;
-use std::env::Env;
+use crate::shared::{A, B, F, Host, Ip, System, Waiter, address, change, made};
+use locked_node::{CloseError, LockError, LockedNode, NewError, Status, SumHash, View};
 use std::process::Abort;
-use std::sync::Wait;
-use std::thread::{Threads, join};
+use std::thread::join;
 
 #[test]
 fn a_pass_is_answered_as_by_the_node(rt: HostRuntime) {
     for case in &CASES {
-        check(&rt, rt.alloc(), case);
+        check(&rt, case);
     }
 }
 
 /// Members, their text, the digest and the owners are told if memory is available.
 #[test]
 fn says_what_it_holds(rt: HostRuntime) {
-    check(&rt, rt.alloc(), &LOOKS_UP);
+    check(&rt, &LOOKS_UP);
 }
 
 /// A view. If out of memory it is made again.
-fn view<R: Wait + Env + Abort>(rt: &R, shared: &Shared, pass: &mut Caller) -> View<SumHash>
+fn view(rt: &impl Waiter, shared: &Shared, pass: &mut Caller) -> View<SumHash>
     requires { Fits shared.now pass.old }
     ensures { Fits shared.now pass.new }
 {
-    let made = match shared.view(rt, pass) {
-        Ok(Err(NodeError::Memory)) => {
-            check_refused(rt);
-            shared.view(rt, pass)
-        }
-        made => made,
-    };
-    made.ok().expect(rt, "a turn").ok().expect(rt, "a view")
-}
-
-/// Checks that a view names the owners of its time when another owns a key.
-fn check_owners<R: Wait + Env + Abort>(rt: &R, alloc: Global, shared: &Shared, pass: &mut Caller)
-    requires { Fits shared.now pass.old }
-{
-    check_calls(rt, alloc, shared, pass, MEETS_TWO);
-    let before = view(rt, shared, pass);
-    check_calls(rt, alloc, shared, pass, LOSES_ONE);
-    check_view(rt, &before);
-    drop(before);
+    made!(rt, shared.view(rt, pass).ok().expect(rt, "a turn"))
 }
 
 /// By sum, A, B, C: the owners of `zzzz0` and `zzzz1` are A and B, then B is faulty: A and C. A view made before still says A and B. A
 /// view names the owners of `zzzz1`: B, C, A.
 #[test]
 fn a_view_answers_as_the_node_did(rt: HostRuntime) {
-    let (shared, mut pass) = alone(&rt, rt.alloc());
-    check_owners(&rt, rt.alloc(), &shared, &mut pass);
+    let (shared, mut pass) = alone(&rt);
+    check_calls(&rt, &shared, &mut pass, MEETS_TWO);
+    let before = view(&rt, &shared, &mut pass);
+    check_calls(&rt, &shared, &mut pass, LOSES_ONE);
+    check_view(&rt, &before);
     let_go(shared, pass);
-}
-
-/// The node that comes back where the counts were bad.
-fn handed_back(refused: NewError<NodeState<SumHash>>) -> Option<NodeState<SumHash>> {
-    match refused {
-        NewError::BadCount(node) => Some(node),
-        NewError::Memory => None,
-    }
-}
-
-/// Checks that this many passes or turns hand the node back.
-fn check_counts(rt: &(impl Env + Abort), alloc: Global, passes: u32, turns: u32) {
-    let given = begun(rt, alloc, &A_AT_7, SumHash);
-    let Some(refused) = LockedNode::new(alloc, given, passes, turns).err() else {
-        panic!(rt; "{passes} passes of {turns} turns")
-    };
-    let given = handed_back(refused).expect(rt, "the node");
-    assert!(rt; given.own() == change(rt, (A, 7, Status::Alive)));
-    drop(given);
 }
 
 /// 0 passes, 1,025 passes and 0 turns: bad count, and the node comes back.
 #[test]
 fn counts_out_of_range_hand_the_node_back(rt: HostRuntime) {
     for (passes, turns) in [(0, 1), (1025, 1), (1, 0)] {
-        check_counts(&rt, rt.alloc(), passes, turns);
+        let node = begun(&rt, &A_AT_7, SumHash);
+        let Err(NewError::BadCount(node)) = LockedNode::new(rt.alloc(), node, passes, turns) else {
+            panic!(&rt; "{passes} passes of {turns} turns")
+        };
+        assert!(&rt; node.own() == change(&rt, (A, 7, Status::Alive)));
     }
-}
-
-/// Checks that a pass of two calls is spent after them.
-fn check_spent<R: Wait + Env + Abort>(
-    rt: &R,
-    shared: &Shared,
-    first: &mut Caller,
-    second: &mut Caller,
-)
-    requires first { Fits shared.now first.old }
-    requires second { Fits shared.now second.old }
-{
-    hear(rt, shared, second, (B, 1, Status::Alive));
-    let calls = [
-        shared.len(rt, first),
-        shared.len(rt, first),
-        shared.len(rt, first),
-    ];
-    assert!(rt; calls == [Ok(2), Ok(2), Err(LockError::PassSpent)]);
 }
 
 /// Two turns: the third call finds the pass spent.
 #[test]
 fn a_pass_is_spent_after_its_calls(rt: HostRuntime) {
-    let (shared, mut first, mut second, _) = pair(&rt, rt.alloc(), A, 2);
-    check_spent(&rt, &shared, &mut first, &mut second);
+    let (shared, mut first, mut second, _) = pair(&rt, A, 2);
+    hear(&rt, &shared, &mut second, (B, 1, Status::Alive));
+    assert!(&rt; shared.len(&rt, &mut first) == Ok(2));
+    assert!(&rt; shared.len(&rt, &mut first) == Ok(2));
+    assert!(&rt; shared.len(&rt, &mut first) == Err(LockError::PassSpent));
     drop(first);
     let_go(shared, second);
 }
@@ -135,32 +84,24 @@ fn close_too_soon(rt: &impl Abort, shared: Shared, passes: Vec<Caller>) -> (Shar
     (refused.node, refused.passes)
 }
 
-/// Checks that the node closes, and holds what was received.
-fn close_whole(rt: &impl Abort, shared: Shared, passes: Vec<Caller>)
-    requires { All (Fits shared) passes.items }
-{
-    let closed = shared
-        .close(passes)
-        .ok()
-        .expect(rt, "both passes are there");
-    let held = closed.member(address(rt, B));
-    drop(closed);
-    assert!(rt; matches!(held, Some(entry) if entry.status == Status::Alive));
-}
-
 /// Of two passes the first takes (B,1,alive), and asks for B: alive at 1. Closing with one pass: missing pass, node and pass come back;
 /// with both: the node that holds B.
 #[test]
 fn a_node_does_not_close_without_a_pass(rt: HostRuntime) {
-    let (shared, mut first, second, mut passes) = pair(&rt, rt.alloc(), A, 9);
-    check_calls(&rt, rt.alloc(), &shared, &mut first, HEARS_OF_B);
+    let (shared, mut first, second, mut passes) = pair(&rt, A, 9);
+    check_calls(&rt, &shared, &mut first, HEARS_OF_B);
     passes.push(first).ok().expect(&rt, "room");
     let (shared, mut passes) = close_too_soon(&rt, shared, passes);
     passes.push(second).ok().expect(&rt, "room");
-    close_whole(&rt, shared, passes);
+    let closed = shared.close(passes).ok().expect(&rt, "a node");
+    let held = closed.member(address(&rt, B));
+    assert!(&rt; matches!(held, Some(entry) if entry.status == Status::Alive));
 }
 
-fn len<R: Wait>(rt: &R, shared: &Shared, mut pass: Caller) -> (Result<usize, LockError>, Caller)
+/// What a pass is answered, and the pass.
+type Counted = (Result<usize, LockError>, Caller);
+
+fn len(rt: &impl Waiter, shared: &Shared, mut pass: Caller) -> Counted
     requires { Fits shared.now pass }
     ensures { Fits shared.now result.1 }
 {
@@ -169,15 +110,12 @@ fn len<R: Wait>(rt: &R, shared: &Shared, mut pass: Caller) -> (Result<usize, Loc
 }
 
 /// The replies to two threads, and their passes.
-fn len_by_two<R: Threads + Wait + Sync>(
-    rt: &R,
+fn len_by_two(
+    rt: &impl System,
     shared: &Shared,
     first: Caller,
     second: Caller,
-) -> (
-    (Result<usize, LockError>, Caller),
-    (Result<usize, LockError>, Caller),
-)
+) -> (Counted, Counted)
     requires first { Fits shared.now first }
     requires second { Fits shared.now second }
     ensures first { Fits shared.now result.0.1 }
@@ -185,11 +123,11 @@ fn len_by_two<R: Threads + Wait + Sync>(
 {
     join(
         rt,
-        move || -> (Result<usize, LockError>, Caller)
+        move || -> Counted
             requires { Fits shared.now first }
             ensures { Fits shared.entry.now result.1 }
         { len(rt, shared, first) },
-        move || -> (Result<usize, LockError>, Caller)
+        move || -> Counted
             requires { Fits shared.now second }
             ensures { Fits shared.entry.now result.1 }
         { len(rt, shared, second) },
@@ -197,39 +135,12 @@ fn len_by_two<R: Threads + Wait + Sync>(
 }
 
 /// A pass of 10.0.0.2:1.
-fn foreign_pass(rt: &(impl Env + Abort), alloc: Global) -> Caller
+fn foreign_pass(rt: &impl Host) -> Caller
     ensures { lock_name result ≡ address_of 167772162 1 }
 {
-    let (shared, pass, other, _) = pair(rt, alloc, B, 9);
+    let (shared, pass, other, _) = pair(rt, B, 9);
     let_go(shared, other);
     pass
-}
-
-/// Why a node is not closed, and how many passes come back.
-fn close_refused(rt: &impl Abort, shared: Shared, passes: Vec<Caller>) -> (CloseError, usize)
-    requires { All (Fits shared) passes.items }
-{
-    let refused = shared.close(passes).err().expect(rt, "a refusal");
-    let told = (refused.cause, refused.passes.len());
-    drop(refused);
-    told
-}
-
-/// Both passes, whose second is none of the node, after each has asked.
-fn check_len<R: Threads + Wait + Abort + Sync>(
-    rt: &R,
-    shared: &Shared,
-    own: Caller,
-    foreign: Caller,
-) -> (Caller, Caller)
-    requires own { Fits shared.now own }
-    requires foreign { Fits shared.now foreign }
-    ensures own { Fits shared.now result.0 }
-    ensures foreign { Fits shared.now result.1 }
-{
-    let (counted, refused) = len_by_two(rt, shared, own, foreign);
-    assert!(rt; counted.0 == Ok(1) && refused.0 == Err(LockError::ForeignPass));
-    (counted.1, refused.1)
 }
 
 /// A list of both passes, in the room that they came in.
@@ -254,17 +165,19 @@ fn both(
 /// Closing with a pass of another node: foreign pass, and both passes come back.
 #[test]
 fn a_pass_of_another_node_is_refused(rt: HostRuntime) {
-    let (shared, other, own, room) = pair(&rt, rt.alloc(), A, 9);
+    let (shared, other, own, room) = pair(&rt, A, 9);
     drop(other);
-    let foreign = foreign_pass(&rt, rt.alloc());
-    let (own, foreign) = check_len(&rt, &shared, own, foreign);
-    let passes = both(&rt, &shared, room, own, foreign);
-    assert!(rt; close_refused(&rt, shared, passes) == (CloseError::ForeignPass, 2));
+    let foreign = foreign_pass(&rt);
+    let (counted, refused) = len_by_two(&rt, &shared, own, foreign);
+    assert!(&rt; counted.0 == Ok(1) && refused.0 == Err(LockError::ForeignPass));
+    let passes = both(&rt, &shared, room, counted.1, refused.1);
+    let open = shared.close(passes).err().expect(&rt, "a refusal");
+    assert!(&rt; open.cause == CloseError::ForeignPass && open.passes.len() == 2);
 }
 
 /// Takes that a member is alive, and then some of the twenty changes.
-fn hear_some<R: Wait + Env + Abort>(
-    rt: &R,
+fn hear_some(
+    rt: &impl Waiter,
     shared: &Shared,
     mut pass: Caller,
     created: Ip,
@@ -281,8 +194,8 @@ fn hear_some<R: Wait + Env + Abort>(
 }
 
 /// Two threads take what there is to take, each in its own order.
-fn hear_by_two<R: Threads + Wait + Env + Abort + Sync>(
-    rt: &R,
+fn hear_by_two(
+    rt: &impl System,
     shared: &Shared,
     first: Caller,
     second: Caller,
@@ -307,29 +220,13 @@ fn hear_by_two<R: Threads + Wait + Env + Abort + Sync>(
     )
 }
 
-/// The node after two threads took the twenty changes and that both nodes are alive. The list has room for its passes.
-fn after_twenty<R: Threads + Wait + Env + Abort + Sync>(
-    rt: &R,
-    alloc: Global,
-    own: Ip,
-    orders: (&[u8], &[u8]),
-) -> NodeState<SumHash> {
-    let (shared, first, second, room) = pair(rt, alloc, own, 1000);
+/// Checks a node whose two threads take the twenty changes in these orders, and that both nodes are alive.
+fn check_orders(rt: &impl System, own: Ip, orders: (&[u8], &[u8])) {
+    let (shared, first, second, room) = pair(rt, own, 1000);
     let (first, second) = hear_by_two(rt, &shared, first, second, orders);
     let passes = both(rt, &shared, room, first, second);
-    shared.close(passes).ok().expect(rt, "it closes")
-}
-
-/// Checks a node whose two threads take the twenty changes in these orders.
-fn check_orders<R: Threads + Wait + Env + Abort + Sync>(
-    rt: &R,
-    alloc: Global,
-    own: Ip,
-    orders: (&[u8], &[u8]),
-) {
-    let mut node = after_twenty(rt, alloc, own, orders);
-    played::check_calls(rt, alloc, &mut node, HEARD_TWENTY);
-    drop(node);
+    let mut node = shared.close(passes).ok().expect(rt, "it closes");
+    played::check_calls(rt, &mut node, HEARD_TWENTY);
 }
 
 /// The same twenty, by two threads on each of two locked nodes.
@@ -339,6 +236,6 @@ fn nodes_that_two_threads_share_agree(rt: HostRuntime) {
     let down = [20u8, 19, 18, 17, 16, 15, 14, 13, 12, 11];
     let mixed = [11u8, 1, 12, 2, 13, 3, 14, 4, 15, 5];
     let rest = [20u8, 6, 19, 7, 18, 8, 17, 9, 16, 10];
-    check_orders(&rt, rt.alloc(), A, (&up, &down));
-    check_orders(&rt, rt.alloc(), F, (&mixed, &rest));
+    check_orders(&rt, A, (&up, &down));
+    check_orders(&rt, F, (&mixed, &rest));
 }

@@ -3,43 +3,30 @@ ghost use Rattle.std.specs.List.{All};
 ghost use Rattle.locked_node.specs.Passes.{Fits};
 
 use crate::locked::nodes::{Caller, Shared, pair};
-use crate::shared::{A, B, address, check_refused, moment};
-use locked_node::{Address, Entry, LockError, Message, NodeError, Received, Status, SumHash};
-use std::env::Env;
+use crate::shared::{A, B, Ip, Waiter, address, check_refused, made, moment};
+use laws::{monotonic_reads, shared_world};
+use locked_node::{Entry, Message, Received, Status, SumHash};
 use std::process::Abort;
-use std::sync::Wait;
-use system_laws::laws::{monotonic_reads, shared_world};
 
 /// Reads a member by a pass.
-fn read<R: Wait + Abort>(rt: &R, shared: &Shared, pass: &mut Caller, of: Address) -> Option<Entry>
+fn read(rt: &impl Waiter, shared: &Shared, pass: &mut Caller, of: Ip) -> Option<Entry>
     requires { Fits shared.now pass.old }
     ensures { Fits shared.now pass.new }
 {
-    shared.member(rt, pass, of).ok().expect(rt, "a turn")
+    let held = shared.member(rt, pass, address(rt, of));
+    held.ok().expect(rt, "a turn")
 }
 
 /// The Join of a node. If an allocation failed it is made once more.
-fn join_message<R: Wait + Env + Abort>(rt: &R, shared: &Shared, pass: &mut Caller) -> Message
+fn join_message(rt: &impl Waiter, shared: &Shared, pass: &mut Caller) -> Message
     requires { Fits shared.now pass.old }
     ensures { Fits shared.now pass.new }
 {
-    let made = match shared.join_message(rt, pass) {
-        Ok(Err(NodeError::Memory)) => {
-            check_refused(rt);
-            shared.join_message(rt, pass)
-        }
-        made => made,
-    };
-    made.ok().expect(rt, "a turn").ok().expect(rt, "a message")
+    made!(rt, shared.join_message(rt, pass).ok().expect(rt, "a turn"))
 }
 
 /// The result of receiving a message. If an allocation failed it is received once more.
-fn receive<R: Wait + Env + Abort>(
-    rt: &R,
-    shared: &Shared,
-    pass: &mut Caller,
-    message: &Message,
-) -> Received
+fn receive(rt: &impl Waiter, shared: &Shared, pass: &mut Caller, message: &Message) -> Received
     requires { Fits shared.now pass.old }
     ensures { Fits shared.now pass.new }
 {
@@ -55,12 +42,7 @@ fn receive<R: Wait + Env + Abort>(
 }
 
 /// The answer to a message.
-fn answer<R: Wait + Env + Abort>(
-    rt: &R,
-    shared: &Shared,
-    pass: &mut Caller,
-    message: &Message,
-) -> Message
+fn answer(rt: &impl Waiter, shared: &Shared, pass: &mut Caller, message: &Message) -> Message
     requires { Fits shared.now pass.old }
     ensures { Fits shared.now pass.new }
 {
@@ -79,28 +61,25 @@ fn close(rt: &impl Abort, shared: Shared, first: Caller, second: Caller, mut pas
     passes.push(first).ok().expect(rt, "room");
     passes.push(second).ok().expect(rt, "room");
     let closed = shared.close(passes).ok().expect(rt, "both passes");
-    let (one, two) = (closed.member(address(rt, A)), closed.member(address(rt, B)));
-    drop(closed);
-    assert!(rt; matches!(one, Some(entry) if entry.status == Status::Alive));
-    assert!(rt; matches!(two, Some(entry) if entry.status == Status::Alive));
+    for of in [A, B] {
+        let held = closed.member(address(rt, of));
+        assert!(rt; matches!(held, Some(entry) if entry.status == Status::Alive));
+    }
 }
 
 #[test]
 fn shared_nodes_join_by_messages_and_read_forward(rt: HostRuntime) {
     shared_world::<SumHash>();
     monotonic_reads::<SumHash>();
-    let (one, mut a, mut b, ones) = pair(&rt, rt.alloc(), A, 20);
-    let (two, mut c, mut d, twos) = pair(&rt, rt.alloc(), B, 20);
+    let (one, mut a, mut b, ones) = pair(&rt, A, 20);
+    let (two, mut c, mut d, twos) = pair(&rt, B, 20);
     let asked = join_message(&rt, &one, &mut a);
     let joined = answer(&rt, &two, &mut c, &asked);
-    let before = read(&rt, &one, &mut b, address(&rt, B));
-    assert!(&rt; before == None);
+    assert!(&rt; read(&rt, &one, &mut b, B) == None);
     drop(receive(&rt, &one, &mut b, &joined));
-    let after = read(&rt, &one, &mut a, address(&rt, B));
-    assert!(&rt; after != None && read(&rt, &one, &mut b, address(&rt, B)) == after);
-    assert!(&rt; read(&rt, &two, &mut d, address(&rt, A)) != None);
-    drop(asked);
-    drop(joined);
+    let after = read(&rt, &one, &mut a, B);
+    assert!(&rt; after != None && read(&rt, &one, &mut b, B) == after);
+    assert!(&rt; read(&rt, &two, &mut d, A) != None);
     close(&rt, one, a, b, ones);
     close(&rt, two, c, d, twos);
 }

@@ -6,14 +6,12 @@ ghost use Rattle.node_core.specs.Run.{log};
 
 use crate::calls::{Call, Calls, Told};
 use crate::node::played::{check_calls, events, tell};
-use crate::shared::{A, B, C, check_refused, node};
+use crate::shared::{A, B, C, Host, found, node};
 use change_core::Status;
 use hash_ring::{PointHash, SumHash};
 use node_core::laws::agreement;
 use node_core::{Event, NodeState, Run, run};
 use std::alloc::Global;
-use std::env::Env;
-use std::process::Abort;
 
 /// Two nodes after two runs. If the logs of these hold the same changes, the nodes agree, if they have one hash and one
 /// number of replica points.
@@ -56,53 +54,32 @@ const IN_TURN: Calls = calls! { "in turn":
     Call::Take((A, 7, Status::Alive), 3), Told::Taken(1, 0);
 };
 
-/// Both runs. None if an allocation failed.
-fn runs(rt: &(impl Env + Abort), alloc: Global) -> Option<(Run<SumHash>, Run<SumHash>)> {
-    let at_once = events(rt, alloc, AT_ONCE);
-    let in_turn = events(rt, alloc, IN_TURN);
-    let one = node(rt, alloc, A, 7);
-    let other = node(rt, alloc, B, 1);
-    let both = both_runs(alloc, one, &at_once, other, &in_turn);
-    drop(at_once);
-    drop(in_turn);
-    both
-}
-
 /// What both nodes hold in the end.
 const HELD: Calls = calls! { "held":
     Call::Text, Told::Text("10.0.0.1:1alive7;10.0.0.2:1alive1;10.0.0.3:1suspect2");
     Call::Owner("zzzz1"), Told::Owner(B);
 };
 
-/// Checks a node after a run by which all was processed; whether it was.
-fn check_run(rt: &(impl Env + Abort), alloc: Global, run: Run<SumHash>, calls: Calls) -> bool {
-    let mut run = run;
-    let told = tell(run.replies.as_slice(), calls);
-    if told.is_some() {
-        check_calls(rt, alloc, &mut run.node, HELD);
-    }
-    drop(run);
-    assert!(rt; told != Some(false));
-    told.is_some()
+/// Checks the replies of a run, and its node; None if one was out of memory.
+fn check_run(rt: &impl Host, run: &mut Run<SumHash>, calls: Calls) -> Option<()> {
+    let is_told = tell(run.replies.as_slice(), calls)?;
+    assert!(rt; is_told);
+    check_calls(rt, &mut run.node, HELD);
+    Some(())
 }
 
-/// Makes both runs, and checks their nodes; whether no allocation failed.
-fn agree(rt: &(impl Env + Abort), alloc: Global) -> bool {
-    match runs(rt, alloc) {
-        Some((one, other)) => {
-            let is_whole = check_run(rt, alloc, one, AT_ONCE);
-            check_run(rt, alloc, other, IN_TURN) && is_whole
-        }
-        None => false,
-    }
+/// Makes both runs, and checks their nodes; None if an allocation failed.
+fn agree(rt: &impl Host) -> Option<()> {
+    let (at_once, in_turn) = (events(rt, AT_ONCE), events(rt, IN_TURN));
+    let (one, other) = (node(rt, A, 7), node(rt, B, 1));
+    let (mut one, mut other) = both_runs(rt.alloc(), one, &at_once, other, &in_turn)?;
+    check_run(rt, &mut one, AT_ONCE)?;
+    check_run(rt, &mut other, IN_TURN)
 }
 
 /// A at 7 hears (B,1,alive) and (C,2,suspect) in one run of calls, and B at 1 hears (C,2,suspect) and then (A,7,alive) in another: both
 /// runs, and the law that ties their nodes, in one function (`both_runs`). One text, and the same owner of `zzzz1`, by sum.
 #[test]
 fn two_runs_agree(rt: HostRuntime) {
-    if !agree(&rt, rt.alloc()) {
-        check_refused(&rt);
-        assert!(rt; agree(&rt, rt.alloc()));
-    }
+    found!(&rt, agree(&rt));
 }

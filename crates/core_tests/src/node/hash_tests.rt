@@ -2,12 +2,9 @@
 use crate::calls::{Call, Told};
 use crate::cases::{A_AT_7, HEAVY_A};
 use crate::node::played::{begun, is_answered};
-use crate::shared::{A, B, C, CountingHash, view};
+use crate::shared::{A, B, C, CountingHash, Host, view};
 use change_core::Status;
 use node_core::NodeState;
-use std::alloc::Global;
-use std::env::Env;
-use std::process::Abort;
 use std::sync::atomic::{AtomicU64, Ordering};
 
 /// A call, its reply, and how many hashes it costs.
@@ -15,15 +12,14 @@ type Costly = (Call, Told<'static>, u64);
 
 /// Counts the hashes of calls, one after another.
 fn count_calls<'a>(
-    rt: &(impl Env + Abort),
-    alloc: Global,
+    rt: &impl Host,
     node: &mut NodeState<CountingHash<'a>>,
     calls: &AtomicU64,
     rows: &[Costly],
 ) {
     for (call, wanted, hashes) in rows {
         let before = calls.load(Ordering::SeqCst);
-        assert!(rt; is_answered(rt, alloc, node, *call, *wanted));
+        assert!(rt; is_answered(rt, node, *call, *wanted));
         assert!(rt; calls.load(Ordering::SeqCst) == before.wrapping_add(*hashes));
     }
 }
@@ -38,30 +34,18 @@ const ALTERATIONS: [Costly; 7] = rows! {
     Call::Owner("key"), Told::Owner(A), 1;
 };
 
-/// Counts the hashes of a view.
-fn count_view<'a>(
-    rt: &(impl Env + Abort),
-    node: &mut NodeState<CountingHash<'a>>,
-    calls: &AtomicU64,
-) {
-    let before = calls.load(Ordering::SeqCst);
-    let view = view(rt, node);
-    let made = calls.load(Ordering::SeqCst);
-    let _ = view.owner(b"key");
-    drop(view);
-    assert!(rt; made == before && calls.load(Ordering::SeqCst) == before.wrapping_add(1));
-}
-
 /// A hash that counts: a new member costs as many hashes as it has points, suspect to alive none, `owner` one, a view none, its `owner`
 /// one.
 #[test]
 fn an_alteration_hashes_no_more_than_its_points(rt: HostRuntime) {
     let calls = AtomicU64::new(0);
-    let hash = CountingHash { calls: &calls };
-    let mut node = begun(&rt, rt.alloc(), &A_AT_7, hash);
-    count_calls(&rt, rt.alloc(), &mut node, &calls, &ALTERATIONS);
-    count_view(&rt, &mut node, &calls);
-    drop(node);
+    let mut node = begun(&rt, &A_AT_7, CountingHash { calls: &calls });
+    count_calls(&rt, &mut node, &calls, &ALTERATIONS);
+    let before = calls.load(Ordering::SeqCst);
+    let view = view(&rt, &mut node);
+    let made = calls.load(Ordering::SeqCst);
+    let _ = view.owner(b"key");
+    assert!(&rt; made == before && calls.load(Ordering::SeqCst) == before.wrapping_add(1));
 }
 
 /// Alterations of members with a weight, and a timer that runs out.
@@ -80,10 +64,8 @@ const WEIGHTY: [Costly; 6] = rows! {
 #[test]
 fn a_weight_makes_as_many_points(rt: HostRuntime) {
     let calls = AtomicU64::new(0);
-    let hash = CountingHash { calls: &calls };
-    let mut node = begun(&rt, rt.alloc(), &HEAVY_A, hash);
+    let mut node = begun(&rt, &HEAVY_A, CountingHash { calls: &calls });
     let created = calls.load(Ordering::SeqCst);
-    count_calls(&rt, rt.alloc(), &mut node, &calls, &WEIGHTY);
-    drop(node);
-    assert!(rt; created == 4 || created == 8);
+    count_calls(&rt, &mut node, &calls, &WEIGHTY);
+    assert!(&rt; created == 4 || created == 8);
 }

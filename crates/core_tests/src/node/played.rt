@@ -4,32 +4,25 @@ ghost use Rattle.change_core.specs.Address.{address_of};
 
 use crate::calls::{Call, Calls, Told, event, is_told, read, tells, wanted_again};
 use crate::cases::{Case, Start};
-use crate::shared::{check_refused, config, configured, held, put, vec_of};
+use crate::shared::{Host, check_refused, config, configured, found, held, put, vec_of};
 use change_core::Weight;
 use hash_ring::{PointHash, SumHash};
 use node_core::{Event, NodeState, Reply, Run, run};
 use std::alloc::Global;
-use std::env::Env;
-use std::process::Abort;
 
 /// A node that starts so.
-pub(crate) fn begun<H: PointHash>(
-    rt: &(impl Env + Abort),
-    alloc: Global,
-    start: &Start,
-    hash: H,
-) -> NodeState<H>
+pub(crate) fn begun<H: PointHash>(rt: &impl Host, start: &Start, hash: H) -> NodeState<H>
     ensures { result.node.own ≡ address_of start.now.own 1 }
 {
     let mut config = config(start.max);
     config.weight = Weight::new(start.weight).expect(rt, "a weight");
-    configured(rt, alloc, &config, hash, start.own, start.created)
+    configured(rt, &config, hash, start.own, start.created)
 }
 
 /// Whether an event has this answer. If it is refused the node is unchanged; if that was for a failed allocation it
 /// comes again.
 pub(crate) fn answers<H: PointHash>(
-    rt: &(impl Env + Abort),
+    rt: &impl Host,
     node: &mut NodeState<H>,
     event: &Event,
     wanted: Told<'_>,
@@ -52,40 +45,32 @@ pub(crate) fn answers<H: PointHash>(
 
 /// Whether a call has this answer.
 pub(crate) fn is_answered<H: PointHash>(
-    rt: &(impl Env + Abort),
-    alloc: Global,
+    rt: &impl Host,
     node: &mut NodeState<H>,
     call: Call,
     wanted: Told<'_>,
 ) -> bool {
-    let event = event(rt, alloc, call);
-    let is_so = answers(rt, node, &event, wanted);
-    drop(event);
-    is_so
+    let event = event(rt, call);
+    answers(rt, node, &event, wanted)
 }
 
 /// Checks what a node answers to calls, one after another.
-pub(crate) fn check_calls<H: PointHash>(
-    rt: &(impl Env + Abort),
-    alloc: Global,
-    node: &mut NodeState<H>,
-    calls: Calls,
-) {
+pub(crate) fn check_calls<H: PointHash>(rt: &impl Host, node: &mut NodeState<H>, calls: Calls) {
     let (name, rows) = calls;
     for (place, (call, wanted)) in rows.iter().enumerate() {
         assert!(rt;
-            is_answered(rt, alloc, node, *call, *wanted),
+            is_answered(rt, node, *call, *wanted),
             "{name}: call {place}"
         );
     }
 }
 
 /// The events of calls.
-pub(crate) fn events(rt: &(impl Env + Abort), alloc: Global, calls: Calls) -> Vec<Event> {
+pub(crate) fn events(rt: &impl Host, calls: Calls) -> Vec<Event> {
     let (_, rows) = calls;
-    let mut events = vec_of(rt, alloc, rows.len());
+    let mut events = vec_of(rt, rows.len());
     for (call, _) in rows {
-        put(rt, &mut events, event(rt, alloc, *call));
+        put(rt, &mut events, event(rt, *call));
     }
     events
 }
@@ -116,15 +101,15 @@ fn try_run(
 }
 
 /// Makes these calls of a new node, which comes back unchanged if out of memory for its replies.
-fn finish(rt: &(impl Env + Abort), alloc: Global, start: &Start, events: &[Event]) -> Run<SumHash> {
-    let node = begun(rt, alloc, start, SumHash);
+fn finish(rt: &impl Host, start: &Start, events: &[Event]) -> Run<SumHash> {
+    let node = begun(rt, start, SumHash);
     let own = node.own();
-    match try_run(alloc, node, events) {
+    match try_run(rt.alloc(), node, events) {
         Ok(finished) => finished,
         Err(node) => {
             check_refused(rt);
             assert!(rt; node.own() == own && node.len() == 1);
-            try_run(alloc, node, events).ok().expect(rt, "a run")
+            try_run(rt.alloc(), node, events).ok().expect(rt, "a run")
         }
     }
 }
@@ -133,117 +118,58 @@ fn finish(rt: &(impl Env + Abort), alloc: Global, start: &Start, events: &[Event
 const PING: Call = Call::MakePing(0x0a00_0009);
 
 /// What tells two nodes apart: the digest of their members, the owners of keys, sixteen pings, and what runs out when.
-const ASKED: [Call; 25] = [
-    Call::Digest,
-    Call::Owners("zzzz0", 9),
-    Call::Owners("zzzz1", 9),
-    Call::Owners("zzzz2", 9),
-    Call::Owners("zzzz3", 9),
-    PING,
-    PING,
-    PING,
-    PING,
-    PING,
-    PING,
-    PING,
-    PING,
-    PING,
-    PING,
-    PING,
-    PING,
-    PING,
-    PING,
-    PING,
-    PING,
-    Call::Expire(4_999),
-    Call::Expire(5_000),
-    Call::Expire(86_404_999),
-    Call::Expire(86_405_000),
-];
+const ASKED: [Call; 25] = rows! {
+    Call::Digest; Call::Owners("zzzz0", 9); Call::Owners("zzzz1", 9); Call::Owners("zzzz2", 9); Call::Owners("zzzz3", 9);
+    PING; PING; PING; PING; PING; PING; PING; PING; PING; PING; PING; PING; PING; PING; PING; PING;
+    Call::Expire(4_999); Call::Expire(5_000); Call::Expire(86_404_999); Call::Expire(86_405_000);
+};
 
 /// What a node answers to an event; if out of memory it is made again.
-fn ask(rt: &(impl Env + Abort), node: &mut NodeState<SumHash>, event: &Event) -> Reply {
+fn ask(rt: &impl Host, node: &mut NodeState<SumHash>, event: &Event) -> Reply {
     let reply = node.apply(event);
     if wanted_again(read(&reply), Told::Done).is_none() {
         return reply;
     }
     check_refused(rt);
-    drop(reply);
     node.apply(event)
-}
-
-/// Whether two nodes answer a call alike.
-fn answer_alike(
-    rt: &(impl Env + Abort),
-    alloc: Global,
-    first: &mut NodeState<SumHash>,
-    second: &mut NodeState<SumHash>,
-    call: Call,
-) -> bool {
-    let event = event(rt, alloc, call);
-    let reply = ask(rt, first, &event);
-    let is_alike = answers(rt, second, &event, read(&reply));
-    drop(reply);
-    drop(event);
-    is_alike
 }
 
 /// Checks that nothing tells two nodes apart: neither members nor pending changes and deadlines.
 pub(crate) fn check_alike(
-    rt: &(impl Env + Abort),
-    alloc: Global,
+    rt: &impl Host,
     first: &mut NodeState<SumHash>,
     second: &mut NodeState<SumHash>,
 ) {
     for call in &ASKED {
-        assert!(rt; answer_alike(rt, alloc, first, second, *call));
+        let event = event(rt, *call);
+        let reply = ask(rt, first, &event);
+        assert!(rt; answers(rt, second, &event, read(&reply)));
     }
 }
 
 /// A new node that has these replies to a run of these events; None if one ran out of memory.
 fn runs(
-    rt: &(impl Env + Abort),
-    alloc: Global,
+    rt: &impl Host,
     start: &Start,
     events: &[Event],
     calls: Calls,
 ) -> Option<NodeState<SumHash>> {
-    let Run { node, replies } = finish(rt, alloc, start, events);
+    let Run { node, replies } = finish(rt, start, events);
     let is_so = tell(replies.as_slice(), calls);
     drop(replies);
-    let (name, _) = calls;
-    assert!(rt; is_so != Some(false), "{name}: in a run");
+    assert!(rt; is_so != Some(false), "{}: in a run", calls.0);
     is_so?;
     Some(node)
 }
 
-/// The node of a run of calls with these replies; if one was out of memory, another new node makes them all.
-fn after_run(
-    rt: &(impl Env + Abort),
-    alloc: Global,
-    start: &Start,
-    calls: Calls,
-) -> NodeState<SumHash> {
-    let events = events(rt, alloc, calls);
-    let found = match runs(rt, alloc, start, &events, calls) {
-        None => {
-            check_refused(rt);
-            runs(rt, alloc, start, &events, calls)
-        }
-        found => found,
-    };
-    drop(events);
-    found.expect(rt, "a run")
-}
-
-/// Checks an example by calls one after another, and by a run of them. Then nothing tells the two nodes apart, one of which was refused no
-/// allocation: so what a refused call left unchanged are pending changes and deadlines too.
-pub(crate) fn check(rt: &(impl Env + Abort), alloc: Global, case: &Case) {
+/// Checks an example by calls one after another, and by a run of them, which another new node makes if a reply was out of memory. Then
+/// nothing tells the two nodes apart, one of which was refused no allocation: so what a refused call left unchanged are pending changes
+/// and deadlines too.
+pub(crate) fn check(rt: &impl Host, case: &Case) {
     let (start, calls) = case;
-    let mut node = begun(rt, alloc, start, SumHash);
-    check_calls(rt, alloc, &mut node, *calls);
-    let mut other = after_run(rt, alloc, start, *calls);
-    check_alike(rt, alloc, &mut node, &mut other);
-    drop(node);
-    drop(other);
+    let mut node = begun(rt, start, SumHash);
+    check_calls(rt, &mut node, *calls);
+    let events = events(rt, *calls);
+    let mut other = found!(rt, runs(rt, start, &events, *calls));
+    check_alike(rt, &mut node, &mut other);
 }

@@ -3,18 +3,16 @@ ghost use Rattle.std.specs.Prelude.{◌≡◌, ◌≢◌, IfSome, map};
 ghost use Rattle.member_core.specs.Membership.{said_by};
 ghost use Rattle.node_core.specs.Agreement.{Agree};
 ghost use Rattle.change_core.specs.Change.{change_of};
-ghost use Rattle.cluster_laws.specs.Reconciliation.{TakesAllOf};
+ghost use Rattle.laws.specs.Reconciliation.{TakesAllOf};
 
 use crate::calls::{Call, Calls, Told};
 use crate::node::played::check_calls;
-use crate::shared::{A, B, C, D, E, Row, check_refused, hear, moment, node};
+use crate::shared::{A, B, C, D, E, Row, check_refused, found, hear, moment, node};
 use change_core::{Change, Moment, Sourced, Status};
-use cluster_laws::laws::reconciliation;
-use hash_ring::{PointHash, SumHash};
+use hash_ring::PointHash;
+use laws::reconciliation;
 use node_core::{NodeState, Taken};
 use std::alloc::Global;
-use std::env::Env;
-use std::process::Abort;
 use wire_json::Changes;
 
 /// Each of these changes with one node as its source.
@@ -88,50 +86,12 @@ fn came_to(applied: usize, refuted: usize) -> Taken {
 }
 
 /// The rumours that 10.0.0.1:1 receives at first.
-const HEARD_BY_ONE: [Row; 3] = [
-    (B, 1, Status::Suspect),
-    (C, 2, Status::Suspect),
-    (D, 4, Status::Alive),
-];
+const HEARD_BY_ONE: [Row; 3] =
+    rows! { B, 1, Status::Suspect; C, 2, Status::Suspect; D, 4, Status::Alive; };
 
 /// The rumours that 10.0.0.2:1 receives at first.
-const HEARD_BY_OTHER: [Row; 3] = [
-    (A, 7, Status::Faulty),
-    (C, 3, Status::Alive),
-    (E, 1, Status::Leave),
-];
-
-/// Receives these.
-fn hear_all(rt: &(impl Env + Abort), node: &mut NodeState<SumHash>, rumours: &[Row]) {
-    for row in rumours {
-        hear(rt, node, *row, 0);
-    }
-}
-
-/// Each node has received a rumour of itself from the other, and refutes it when that one sends it. The other receives
-/// the last refutation of the one by the third exchange alone.
-fn reconcile_after_rumours(
-    rt: &(impl Env + Abort),
-    alloc: Global,
-    one: &mut NodeState<SumHash>,
-    other: &mut NodeState<SumHash>,
-) {
-    let now = moment(rt, 1);
-    let taken = reconcile(alloc, one, other, now);
-    let wanted = [came_to(3, 1), came_to(3, 1), came_to(1, 0)];
-    match taken {
-        None => check_refused(rt),
-        Some(taken) => assert!(rt; taken == wanted),
-    }
-    let again = match reconcile(alloc, one, other, now) {
-        None => {
-            check_refused(rt);
-            reconcile(alloc, one, other, now)
-        }
-        again => again,
-    };
-    assert!(rt; taken.is_none() || again == Some([came_to(0, 0); 3]));
-}
+const HEARD_BY_OTHER: [Row; 3] =
+    rows! { A, 7, Status::Faulty; C, 3, Status::Alive; E, 1, Status::Leave; };
 
 /// What both nodes hold in the end.
 const HELD: Calls = calls! { "held":
@@ -145,14 +105,23 @@ const HELD: Calls = calls! { "held":
 /// that ties the nodes stand in one function (`reconcile`).
 #[test]
 fn two_nodes_reconcile(rt: HostRuntime) {
-    let alloc = rt.alloc();
-    let mut one = node(&rt, alloc, A, 7);
-    let mut other = node(&rt, alloc, B, 1);
-    hear_all(&rt, &mut one, &HEARD_BY_ONE);
-    hear_all(&rt, &mut other, &HEARD_BY_OTHER);
-    reconcile_after_rumours(&rt, alloc, &mut one, &mut other);
-    check_calls(&rt, alloc, &mut one, HELD);
-    check_calls(&rt, alloc, &mut other, HELD);
-    drop(one);
-    drop(other);
+    let (mut one, mut other) = (node(&rt, A, 7), node(&rt, B, 1));
+    for row in &HEARD_BY_ONE {
+        hear(&rt, &mut one, *row, 0);
+    }
+    for row in &HEARD_BY_OTHER {
+        hear(&rt, &mut other, *row, 0);
+    }
+    let now = moment(&rt, 1);
+    // Each has received a rumour of itself from the other, and refutes it when that one sends it. The other receives the last refutation of the
+    // one by the third exchange alone.
+    let taken = reconcile(rt.alloc(), &mut one, &mut other, now);
+    match taken {
+        None => check_refused(&rt),
+        Some(taken) => assert!(&rt; taken == [came_to(3, 1), came_to(3, 1), came_to(1, 0)]),
+    }
+    let again = found!(&rt, reconcile(rt.alloc(), &mut one, &mut other, now));
+    assert!(&rt; taken.is_none() || again == [came_to(0, 0); 3]);
+    check_calls(&rt, &mut one, HELD);
+    check_calls(&rt, &mut other, HELD);
 }

@@ -3,9 +3,9 @@ use denote.Ref.{Bor}
 use Rattle.message_core.specs.declared.messages.Message.{Message}
 use Rattle.peer_core.specs.Handling.{Handled, handled_shared}
 use Rattle.agent.specs.Asking.{notes_source}
-use Rattle.agent.specs.Calling.{AnyHandling}
+use Rattle.agent_application.specs.Applications.{AnyHandling}
 use Rattle.agent.specs.Onces.{Noted, noted_as_repeatable}
-use Rattle.agent.specs.declared.applications.Application.{Application}
+use Rattle.agent_application.specs.declared.applications.Application.{Application}
 use Rattle.agent.specs.declared.links.NotedHandler.{NotedHandler}
 use Rattle.agent.specs.declared.links.NotedLink.{NotedLink}
 use Rattle.agent.proofs.Asking.{made_requested, makes_noted, noting}

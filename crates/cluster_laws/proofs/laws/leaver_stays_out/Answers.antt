@@ -1,5 +1,0 @@
-use Rattle.cluster_laws.proofs.Leaving.{leavers_stay_out}
-use Rattle.cluster_laws.proofs.laws.leaver_stays_out.Goals as goal
-
-pub returns : goal.returns
-returns g c = leavers_stay_out g.H.PointHash.hash_of

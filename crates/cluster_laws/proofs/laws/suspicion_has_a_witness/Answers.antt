@@ -1,5 +1,0 @@
-use Rattle.cluster_laws.proofs.Witnessing.{none_without_witness}
-use Rattle.cluster_laws.proofs.laws.suspicion_has_a_witness.Goals as goal
-
-pub returns : goal.returns
-returns g c = none_without_witness g.H.PointHash.hash_of

@@ -1,8 +1,0 @@
-use Rattle.system_laws.proofs.Scripting.{runs_are_plays, scripts_agree}
-use Rattle.system_laws.proofs.laws.script_agreement.Goals as goal
-
-pub returns-clause-runs : goal.returns-clause-runs
-returns-clause-runs g c = λ hash_of. runs_are_plays hash_of
-
-pub returns-clause-agree : goal.returns-clause-agree
-returns-clause-agree g c = λ hash_of. scripts_agree hash_of

@@ -337,7 +337,7 @@ module _ {H : Type 0} (hash_of : H → List ℕ → ℕ) where
         by_turn (inr (none, stays)) (picks, are, same) =
             (picks, subst (λ (l : List ℕ). ArePicks members l picks) stays are, same ∙ sym (none_begun t ts none))
 
-    -- where the pass finds nobody to probe, there is nobody
+    -- where the pass finds no member to probe, there is none
     nobody : (old last : Node H) (ts : History H) (e : CallEntry H) → LegalHistory hash_of old ts last → ProbesAlone n members old ts → In e (entries_of n ts)
         → e.call ≡ OfEvent event.Probe → e.answer ≡ WithReply (reply.Probe (Ok None)) → members ≡ []
     nobody old last [] e legal alone h asked answers = absurd h

@@ -27,7 +27,7 @@ module _ (size : Size) where
   waits-some q [] h = absurd h
   waits-some q (r ∷ rs) h = refl
 
-  -- so many messages are left at most
+  -- this number of messages is left at most
 
   abbrev pub top : ℕ
   top = (size.news + size.pending) * size.limit + size.news * (2 * messages) + messages

@@ -537,7 +537,7 @@ module _ {H : Type 0} (hash_of : H → List ℕ → ℕ) where
             ];
           }
 
-    -- so many stretches are a sweep
+    -- this number of stretches is a sweep
     are_sweep : (before after : Nodes H) (n top : ℕ) (run : Stretches before after n) → ((b : ℕ) → left (before b) ≤ top) → top < n * messages → IsSweep before run.es
     are_sweep before after n top run few enough a b at_a at_b apart = elim (run.heard b at_b) [
       | inl less ↦ let most : left (before b) ≤ top = few b in absurd (omega (arith, less, most, enough))

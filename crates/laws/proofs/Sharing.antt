@@ -47,7 +47,7 @@ module _ {H : Type 0} (hash_of : H → List ℕ → ℕ) where
   abbrev starting : Nodes → List (WorldEvent H)
   starting nodes = map (λ (n : SharedNode hash_of). starts n.birth) nodes
 
-  -- a world with these nodes begun: they are as they were born, all others as before, and no message was made
+  -- a world with these nodes begun: they are new, all others are unchanged, and no message was made
   record Begun (w : World H) (nodes : Nodes) (after : World H) : Type 0 where
     pub there : (n : SharedNode hash_of) → In n nodes → after.nodes (address_of n) ≡ Some (created n.birth)
     pub others : (a : ℕ) → (In a (map (λ (n : SharedNode hash_of). address_of n) nodes) → ⊥) → after.nodes a ≡ w.nodes a

@@ -152,7 +152,7 @@ def check_requests(agents):
         expect(told == [503, 404], f"requests at the level {level} are answered {told}")
     wait_until("logged", 5, lambda: "GET /nothing/d" in agent.said())
     log_level(agent, "POST", "?level=info")
-    lines = re.findall(rf"\[DEBUG agent::api\] (.*) \d+\.\d\d\d ms 127\.0\.0\.1$", agent.said(), re.M)
+    lines = re.findall(rf"\[DEBUG agent_api::api\] (.*) \d+\.\d\d\d ms 127\.0\.0\.1$", agent.said(), re.M)
     said = [line for line in lines if " /log " not in line]
     wanted = [line for name in "bd" for line in (f"POST {path} 503 service", f"GET /nothing/{name} 404 agent")]
     expect(said == wanted, f"the log has the requests {said}")
@@ -168,7 +168,7 @@ def check_unread(agent):
         expect(statuses == ["400", "413"], f"requests that HTTP refuses are answered {statuses}")
     wait_until("logged", 5, lambda: "- - 413 " in agent.said())
     log_level(agent, "POST", "?level=info")
-    said = re.findall(r"\[DEBUG agent::http_refusals\] (.*)", agent.said())
+    said = re.findall(r"\[DEBUG agent_api::http_refusals\] (.*)", agent.said())
     expect(said == [f"- - {status} agent - ms 127.0.0.1" for status in statuses], f"the log has of requests that HTTP refuses {said}")
 
 
@@ -187,7 +187,7 @@ def check_log_json(agent):
         log_level(agent, "POST", f"?level={level}")
         fetch(agent.http, "GET", f"/nothing/{name}")
     wait_until("logged", 5, lambda: "GET /nothing/c" in agent.said())
-    said = [line["message"].split()[1] for line in logged(agent) if (line["level"], line["target"]) == ("DEBUG", "agent::api")]
+    said = [line["message"].split()[1] for line in logged(agent) if (line["level"], line["target"]) == ("DEBUG", "agent_api::api")]
     expect([it for it in said if it != "/log"] == ['/nothing/a"\\', "/nothing/c"], f"a log of JSON has the requests {said}")
 
 

@@ -10,7 +10,7 @@ import sys
 from svg import AMBER, BLUE, FAINT, GREEN, GRID, INK, PURPLE, RED, Picture
 
 ROOT = pathlib.Path(__file__).resolve().parents[2]
-LIMITS = "crates/cluster_core/src/tcp_links.rt"
+LIMITS = "crates/transport/src/tcp_links.rt"
 COLUMN, STEP, TOP = 236, 34, 74
 
 

@@ -21,7 +21,7 @@ use Rattle.forward_core.specs.declared.routes.Route.TheVariants as route
 use Rattle.peer_core.specs.Acts.{Act, OfActs, acts_of, looked}
 use Rattle.peer_core.specs.Exchanges.{Errand, stays, goes_to, joins, errand_of, Runs, Sends}
 use Rattle.peer_core.specs.Handling.{Handled, Handlings, handled_as}
-use Rattle.peer_core.specs.Links.{Went}
+use Rattle.peer_core.specs.Links.{Went, any_answer}
 use Rattle.peer_core.specs.Resending.{EndsBy, Failed, ForwardsOver, IsResultOf, Sending, result_of_handler}
 use Rattle.peer_core.specs.Serving.{Forwards, IsRouted, Says, Serves, message_by, message_from}
 use Rattle.peer_core.specs.declared.errors.ClusterError.{ClusterError}
@@ -35,20 +35,20 @@ use Rattle.line_service.specs.Answering.{line_text}
 use Rattle.line_service.specs.declared.inputs.Input.TheVariants as input
 use Rattle.agent_core.specs.declared.refusals.Refusal.{Refusal}
 use Rattle.agent_core.specs.declared.refusals.Refusal.TheVariants as refused
-use Rattle.agent.specs.Asking.{AsksFor, notes_asking}
-use Rattle.agent.specs.Calling.{AnyAnswer, Calling, HasMade, hash_of}
+use Rattle.agent_peers.specs.Serving.{AsksFor, IsAnsweredHere, IsServed, RespondsAsking, asks, is_forward}
+use Rattle.agent_api.specs.Asking.{notes_asking}
+use Rattle.agent_node.specs.Calling.{Calling, HasMade, hash_of}
 use Rattle.agent.specs.Journeys.{Asked, AsksOne, AsksOneAtMost, ClientsAreTold, EndsMeet, ForwardsAskOne, IsAskedOnce, IsDelivered, IsGossip, IsTold, IsTurnedAway, MakesGossip, PassesOnAlone, RequestsAskOne, SaysBusy, TellsOf, askings, busy_text, goes_on, travels, unasked}
-use Rattle.agent.specs.Onces.{Noted, is_unsure, notes_send, unnoted, was_made}
-use Rattle.agent.specs.Owning.{EndsOnce, undone_send}
-use Rattle.agent.specs.Performing.{Outcome, SettledBy, early_refusal, ending_of, is_in_doubt}
-use Rattle.agent.specs.Relays.{Chooses, IsNotDone, IsOwnerBy, IsRelayOf, IsRelayedAs, PassesOn, Withholds, sent_back}
-use Rattle.agent.specs.Serving.{IsAnsweredHere, IsServed, RespondsAsking, asks, is_forward}
+use Rattle.agent_api.specs.Onces.{Noted, is_unsure, notes_send, unnoted, was_made}
+use Rattle.agent_api.specs.Ending.{EndsOnce, undone_send}
+use Rattle.agent_api.specs.Performing.{Outcome, SettledBy, early_refusal, ending_of, is_in_doubt}
+use Rattle.agent_peers.specs.Relays.{Chooses, IsNotDone, IsOwnerBy, IsRelayOf, IsRelayedAs, PassesOn, Withholds, sent_back}
 use Rattle.agent_http.specs.declared.replies.Reply as http
 use Rattle.agent_http.specs.declared.replies.Reply.TheVariants as page
-use Rattle.agent.specs.declared.relays.Relayed.{Relayed}
-use Rattle.agent.specs.declared.relays.Relayed.TheVariants.{Lost, Reply, NoReply, NotDone}
-use Rattle.agent.proofs.Owning.{requests_end_once}
-use Rattle.agent.proofs.LineTexts.{not_owner_not_refused, one_reply, reply_not_owner, reply_not_refused}
+use Rattle.agent_peers.specs.declared.relays.Relayed.{Relayed}
+use Rattle.agent_peers.specs.declared.relays.Relayed.TheVariants.{Lost, Reply, NoReply, NotDone}
+use Rattle.agent_api.proofs.Ending.{requests_end_once}
+use Rattle.line_service.proofs.LineTexts.{not_owner_not_refused, one_reply, reply_not_owner, reply_not_refused}
 
 -- ---- what a node answers to a Forward
 
@@ -85,7 +85,7 @@ not_owner_kind (content.Refused why) is = absurd cc
 module _ (Handles : Handlings) where
   -- only for a Forward is the application asked
   others_never : (message : Message) (now : ℕ) (told : Content) (r : Result Message ClusterError) (acts : List (Act Sha256Hash)) → is_forward told ≡ false
-      → Serves hash_of AnyAnswer Handles message now told r acts → Handles.never
+      → Serves hash_of any_answer Handles message now told r acts → Handles.never
   others_never message now (content.Forward keys body) r acts calm served = absurd (true≢false calm)
   others_never message now told r acts calm served = served.0
 
@@ -144,13 +144,13 @@ module _ (Handles : Handlings) where
           → (answer : Result (List ℕ) HandlerFault) × Handles.once keys body answer
       asked_once some old new made =
           let (xs, ys, e, (now, r, served), later) = made.makes.so in
-          forwards_once some r xs (subst (λ (c : Content). Serves hash_of AnyAnswer Handles request now c r xs) is served)
+          forwards_once some r xs (subst (λ (c : Content). Serves hash_of any_answer Handles request now c r xs) is served)
 
       -- the message whose line goes back
       line_so : (line : List ℕ) (acts : List (Act Sha256Hash)) → RespondsAsking Handles (input.Message request) line acts
           → (a : Message) × (line ≡ line_text a) × Answers a.content
       line_so line acts (now, (answer, (xs, ys, e, made, inl (none, short, same)))) =
-          (answer, same, forwards_so answer xs (subst (λ (c : Content). Serves hash_of AnyAnswer Handles request now c (Ok answer) xs) is made))
+          (answer, same, forwards_so answer xs (subst (λ (c : Content). Serves hash_of any_answer Handles request now c (Ok answer) xs) is made))
       line_so line acts (now, (answer, (xs, ys, e, made, inr (why, unsent, (refused, refuses, same))))) =
           (refused, same, inr (inl (why, says_so (content.Refused why) refused ys refuses)))
 
@@ -214,34 +214,34 @@ module _ {L : Type 0} (went : Went L)
   sends_still hosts old new (act ∷ acts) (calm, others) (left, mid, runs, rest) = sends_still left mid new acts others rest ∙ runs_still (errand_of act) hosts left old mid calm runs
 
   module _ (request : Message) where
-    chooses_still : (a : Address) (old new : L) (acts : List (Act Sha256Hash)) → MakesGossip acts → Chooses AnyAnswer went request a old new acts → new ≡ old
+    chooses_still : (a : Address) (old new : L) (acts : List (Act Sha256Hash)) → MakesGossip acts → Chooses any_answer went request a old new acts → new ≡ old
     chooses_still a old new acts calm (inl (names, other, same)) = same
     chooses_still a old new acts calm (inr (xs, ys, e, names, (us, vs, f, (count, (entered, (asked, part, sends))), later))) =
         sends_still asked old new us (gossip_in ys us vs f (gossip_in acts xs ys e calm).1).0 sends
 
-    withholds_still : (old new : L) (acts : List (Act Sha256Hash)) → MakesGossip acts → Withholds AnyAnswer went request old new acts → new ≡ old
+    withholds_still : (old new : L) (acts : List (Act Sha256Hash)) → MakesGossip acts → Withholds any_answer went request old new acts → new ≡ old
     withholds_still old new acts calm (xs, ys, e, looks, (us, vs, f, inl (nothing, same), later)) = same
     withholds_still old new acts calm (xs, ys, e, looks, (us, vs, f, inr (joined, (entered, (asked, part, sends))), later)) =
         sends_still asked old new us (gossip_in ys us vs f (gossip_in acts xs ys e calm).1).0 sends
 
     -- nothing else is passed on
-    chooses_nobody : (a : Address) (old new : L) (acts : List (Act Sha256Hash)) → is_forward request.content ≡ false → Chooses AnyAnswer went request a old new acts → ⊥
+    chooses_nobody : (a : Address) (old new : L) (acts : List (Act Sha256Hash)) → is_forward request.content ≡ false → Chooses any_answer went request a old new acts → ⊥
     chooses_nobody a old new acts calm (inl ((view, just, owns), other, same)) = not_named view request.content a calm owns
     chooses_nobody a old new acts calm (inr (xs, ys, e, (view, just, owns), later)) = not_named view request.content request.source calm owns
 
-    passes_nothing : (relayed : Relayed) (old new : L) (acts : List (Act Sha256Hash)) → is_forward request.content ≡ false → PassesOn AnyAnswer went request relayed old new acts → ⊥
+    passes_nothing : (relayed : Relayed) (old new : L) (acts : List (Act Sha256Hash)) → is_forward request.content ≡ false → PassesOn any_answer went request relayed old new acts → ⊥
     passes_nothing relayed old new acts calm (owner, own, mid, (xs, ys, e, chooses, just), goes) = chooses_nobody owner old mid xs calm chooses
 
     relays_nothing : (relayed : Relayed) (old new : L) (passing passed : Calling) → is_forward request.content ≡ false → HasMade MakesGossip passing passed
-        → IsRelayOf AnyAnswer went (input.Message request) relayed old new passing passed → (relayed ≡ NotDone) × (new ≡ old)
+        → IsRelayOf any_answer went (input.Message request) relayed old new passing passed → (relayed ≡ NotDone) × (new ≡ old)
     relays_nothing relayed old new passing passed calm gossip (inr (is, same, kept)) = (is, same)
     relays_nothing relayed old new passing passed calm gossip (inl (it, is, inl made)) =
         let at : it ≡ request = cc in
-        absurd (passes_nothing relayed old new (acts_of made.makes.entries) calm (subst (λ (m : Message). PassesOn AnyAnswer went m relayed old new (acts_of made.makes.entries)) at made.makes.so))
+        absurd (passes_nothing relayed old new (acts_of made.makes.entries) calm (subst (λ (m : Message). PassesOn any_answer went m relayed old new (acts_of made.makes.entries)) at made.makes.so))
     relays_nothing relayed old new passing passed calm gossip (inl (it, is, inr (undone, made))) =
         let at : it ≡ request = cc in
-        let (acts, quiet, withholds) = both_made (Withholds AnyAnswer went it old new) passing passed gossip made in
-        (undone, withholds_still old new acts quiet (subst (λ (m : Message). Withholds AnyAnswer went m old new acts) at withholds))
+        let (acts, quiet, withholds) = both_made (Withholds any_answer went it old new) passing passed gossip made in
+        (undone, withholds_still old new acts quiet (subst (λ (m : Message). Withholds any_answer went m old new acts) at withholds))
 
     -- a request is passed on by one call of the link
     module _ (keys : List (List ℕ)) (body : List ℕ) (is : request.content ≡ content.Forward keys body) where
@@ -251,7 +251,7 @@ module _ {L : Type 0} (went : Went L)
           × (message.content ≡ content.Forward keys body) × went to message answer old new × IsRelayedAs answer relayed)
           ⊎ ((relayed ≡ NotDone) × (new ≡ old))
 
-      passes_one : (relayed : Relayed) (old new : L) (acts : List (Act Sha256Hash)) → MakesGossip acts → PassesOn AnyAnswer went request relayed old new acts → Relays relayed old new
+      passes_one : (relayed : Relayed) (old new : L) (acts : List (Act Sha256Hash)) → MakesGossip acts → PassesOn any_answer went request relayed old new acts → Relays relayed old new
       passes_one relayed old new acts calm (owner, own, mid, (xs, ys, e, chooses, just), (answer, came, goes, known)) =
           inl (
             owner,
@@ -263,16 +263,16 @@ module _ {L : Type 0} (went : Went L)
           )
 
       relays_one : (relayed : Relayed) (old new : L) (passing passed : Calling) → HasMade MakesGossip passing passed
-          → IsRelayOf AnyAnswer went (input.Message request) relayed old new passing passed → Relays relayed old new
+          → IsRelayOf any_answer went (input.Message request) relayed old new passing passed → Relays relayed old new
       relays_one relayed old new passing passed gossip (inr (undone, same, kept)) = inr (undone, same)
       relays_one relayed old new passing passed gossip (inl (it, e, inl made)) =
           let at : it ≡ request = cc in
-          let (acts, quiet, passes) = both_made (PassesOn AnyAnswer went it relayed old new) passing passed gossip made in
-          passes_one relayed old new acts quiet (subst (λ (m : Message). PassesOn AnyAnswer went m relayed old new acts) at passes)
+          let (acts, quiet, passes) = both_made (PassesOn any_answer went it relayed old new) passing passed gossip made in
+          passes_one relayed old new acts quiet (subst (λ (m : Message). PassesOn any_answer went m relayed old new acts) at passes)
       relays_one relayed old new passing passed gossip (inl (it, e, inr (undone, made))) =
           let at : it ≡ request = cc in
-          let (acts, quiet, withholds) = both_made (Withholds AnyAnswer went it old new) passing passed gossip made in
-          inr (undone, withholds_still old new acts quiet (subst (λ (m : Message). Withholds AnyAnswer went m old new acts) at withholds))
+          let (acts, quiet, withholds) = both_made (Withholds any_answer went it old new) passing passed gossip made in
+          inr (undone, withholds_still old new acts quiet (subst (λ (m : Message). Withholds any_answer went m old new acts) at withholds))
 
 -- ---- what a request asks
 
@@ -285,7 +285,7 @@ module _ {A : Type 0} (handled : Handled A) where
   served_still : (went : Went (Asked A))
       → ((to : Address) (message : Message) (answer : Result Message LinkError) (old new : Asked A) → is_forward message.content ≡ false → went to message answer old new → new ≡ old)
       → (request : Message) → is_forward request.content ≡ false → (line : Option (Vec ℕ Global)) (before after : Asked A) (was is : A) (old : Calling)
-      → (served : IsServed AnyAnswer went handled (input.Message request) line before after was is old) → PassesOnAlone served → after ++ askings served ≡ before
+      → (served : IsServed any_answer went handled (input.Message request) line before after was is old) → PassesOnAlone served → after ++ askings served ≡ before
   served_still went still request calm line before after was is old (IsServed.here new answered) alone =
       absurd (unasked_for (asks handled true was is) request old new calm answered.0)
   served_still went still request calm line before after was is old (IsServed.there unsent new passing passed relayed answered relays done same) alone =
@@ -399,7 +399,7 @@ module _ {A : Type 0} (handled : Handled A) where
           undone_asks went unsent to message inner old new goes known (one_at_most to message inner old new forward goes)
 
       served_asks : (line : Option (Vec ℕ Global)) (answer : Result Message LinkError) → IsDelivered line answer → (before after : Asked A) (was is : A) (old : Calling)
-          → (served : IsServed AnyAnswer went handled (input.Message request) line before after was is old) → PassesOnAlone served → Asks answer before (after ++ askings served)
+          → (served : IsServed any_answer went handled (input.Message request) line before after was is old) → PassesOnAlone served → Asks answer before (after ++ askings served)
       served_asks line answer delivered before after was is old (IsServed.here new answered) alone =
           let (result, tells) = here_asks request told line was is old new answered answer delivered in inr ((was, is), (refl, result), tells)
       served_asks line answer delivered before after was is old (IsServed.there unsent new passing passed relayed answered relays done same) alone =

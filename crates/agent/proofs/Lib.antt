@@ -1,12 +1,3 @@
-pub mod Answering
-pub mod Asking
-pub mod Called
-pub mod Conversing
 pub mod Journeys
-pub mod LineTexts
 pub mod Owning
-pub mod Performed
-pub mod Refusing
-pub mod Relaying
-pub mod Unsure
 pub mod Written

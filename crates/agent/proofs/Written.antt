@@ -1,5 +1,5 @@
 -- The output of an agent, line by line.
-use Rattle.std.proofs.Common.{◌≡◌, ℕ, ap, refl, sym, List, [], ◌∷◌, ◌++◌, Option, Some, None, append-nil}
+use Rattle.std.proofs.Common.{ℕ, ap, refl, sym, List, [], ◌∷◌, ◌++◌, Option, Some, None, append-nil}
 use Rattle.std.proofs.KnownBytes.{Appends-trans}
 use Rattle.std.specs.Prelude.{codes}
 use Rattle.std.specs.Io.KnownBytes.{Appends}

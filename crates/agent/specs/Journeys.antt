@@ -11,7 +11,7 @@ use Rattle.forward_core.specs.Routes.{AllOwnedBy}
 use Rattle.peer_core.specs.Acts.{Act, OfActs, looked}
 use Rattle.peer_core.specs.Exchanges.{Errand, stays, goes_to, joins, errand_of}
 use Rattle.peer_core.specs.Handling.{Handled, Handlings}
-use Rattle.peer_core.specs.Links.{MayAnswer, Went}
+use Rattle.peer_core.specs.Links.{MayAnswer, Went, any_answer}
 use Rattle.peer_core.specs.Resending.{SendsRequest, result_of_handler}
 use Rattle.peer_core.specs.Serving.{message_from}
 use Rattle.peer_core.specs.declared.errors.ClusterError.{ClusterError}
@@ -25,12 +25,12 @@ use Rattle.line_service.specs.declared.inputs.Input.TheVariants as input
 use Rattle.agent_core.specs.Packs.{packed}
 use Rattle.agent_core.specs.Refusals.{line_of, status_of}
 use Rattle.agent_core.specs.declared.refusals.Refusal.TheVariants as refusal
-use Rattle.agent.specs.Asking.{notes_asking}
+use Rattle.agent_api.specs.Asking.{notes_asking}
 use Rattle.agent_http.specs.declared.replies.Reply.TheVariants as shown
-use Rattle.agent.specs.Calling.{AnyAnswer, Calling, HasMade, hash_of}
-use Rattle.agent.specs.Onces.{Noted, unnoted, was_made}
-use Rattle.agent.specs.Performing.{Outcome, SettledBy, ending_of}
-use Rattle.agent.specs.Serving.{IsServed, RespondsAsking, is_forward}
+use Rattle.agent_node.specs.Calling.{Calling, HasMade, hash_of}
+use Rattle.agent_api.specs.Onces.{Noted, unnoted, was_made}
+use Rattle.agent_api.specs.Performing.{Outcome, SettledBy, ending_of}
+use Rattle.agent_peers.specs.Serving.{IsServed, RespondsAsking, is_forward}
 
 -- the text of the Reply of an agent that has no place for a request
 abbrev pub busy_text : List ℕ
@@ -96,7 +96,7 @@ module _ {A : Type 0} (handled : Handled A) where
   -- link led, and then its own, if it was. Or it turned it away, and asked none.
   abbrev pub Receives : Went (Asked A) → Input → Option (Vec ℕ Global) → Asked A → Asked A → Type 0
   Receives went heard line old new =
-      ((mid : Asked A) × (was : A) × (is : A) × (calling : Calling) × (served : IsServed AnyAnswer went handled heard line old mid was is calling)
+      ((mid : Asked A) × (was : A) × (is : A) × (calling : Calling) × (served : IsServed any_answer went handled heard line old mid was is calling)
       × PassesOnAlone served × (new ≡ mid ++ askings served))
       ⊎ (IsTurnedAway heard line × (new ≡ old))
 
@@ -198,6 +198,6 @@ module _ {L A B : Type 0} (went : Went L) (noted_of : L → Noted) (handled : Ha
       (old new : L × Asked A) (mid : Asked A) (was is : A) (calling : Calling)
       → AllOwnedBy hash_of view keys (Some to) → to ≢ view.own → was_made (noted_of old.0).made (noted_of new.0).made ≡ true
       → went to (message_from view (content.Forward keys request)) (Ok reply) old.0 new.0
-      → (served : IsServed AnyAnswer (travels handled n) handled (input.Message (message_from view (content.Forward keys request))) (Some sent) old.1 mid was is calling)
+      → (served : IsServed any_answer (travels handled n) handled (input.Message (message_from view (content.Forward keys request))) (Some sent) old.1 mid was is calling)
       → PassesOnAlone served → new.1 ≡ mid ++ askings served → sent.items ≡ line_text reply → reply.content ≡ content.Reply text
       → SendsRequest hash_of (goes_on went noted_of handled (suc n)) own keys request (Ok text) state state old new (looked (Ok view) ∷ [])

@@ -1,12 +1,12 @@
 //! Theorems about requests to agents, each the contract of a function that does nothing.
 ghost use Rattle.agent.specs.Journeys.{ClientsAreTold, EndsMeet, ForwardsAskOne, RequestsAskOne};
-ghost use Rattle.agent.specs.Onces.{noted_by, sends_once};
-ghost use Rattle.agent.specs.Owning.{AnswersAreDoneOnce, AskersDiffer, AskersOwn, ErrorsAreUndone, OneAsks, OthersAreSure, RequestsEndOnce};
+ghost use Rattle.agent_api.specs.Onces.{noted_by, sends_once};
+ghost use Rattle.agent.specs.Owning.{AskersDiffer, AskersOwn, OneAsks};
 
 use agent_state::Host;
-use cluster_core::Dial;
 use peer_core::HandlerMut;
 use std::net::TcpStream;
+use transport::Dial;
 
 /// One application is asked, whichever agent a request enters at. An agent that is given a request, by a client or by another node's Forward, asks its
 /// application only if it owns each of the keys in one of the views by which it answers. So of all agents whose views name owners by the same number of points
@@ -18,25 +18,12 @@ pub fn one_application<A: HandlerMut>()
     ensures differ { AskersDiffer A.handled }
 {}
 
-/// A request that may not be performed twice ends once. It goes over a [`OnceLink`] of any network, and asks any handler. Of the Forwards that its link is
-/// given only the last may have reached a node that performed it: for each before, the node called said that it does not own the keys, or there was no
-/// answer, and the network made no connection. If none follows those, the handler was called, once, or nothing was performed. If the request has an answer,
-/// the handler gave the text, or the link was given one Forward more, and a Reply to it has the text. If it has an error and the link notes no doubt, no
-/// node performed it by a Forward. There is no doubt unless the error is that for memory, by which a request also ends early; and unless it is that or the
-/// handler's, the handler was not called.
-pub fn performed_once<R: Host, N: Dial<Stream = TcpStream>, A: HandlerMut>()
-    ensures sent { RequestsEndOnce (sends_once {R = R} N.dialled) A.handled noted_by }
-    ensures answered { AnswersAreDoneOnce (sends_once {R = R} N.dialled) A.handled noted_by }
-    ensures undone { ErrorsAreUndone (sends_once {R = R} N.dialled) A.handled noted_by }
-    ensures sure { OthersAreSure (sends_once {R = R} N.dialled) A.handled noted_by }
-{}
-
 /// One application of all agents is asked for a request at most, once, by whichever agents its Forwards go. The journey of a Forward ends where no agent receives it,
 /// or at one, once. That one asks its application; or it passes the Forward on, over a link by which it has a journey again; or, if no other node performed it,
 /// it answers again; or it turns the Forward away, and asks nothing. An answer is taken to be the message of the line that the agent sent back. Then a Forward
 /// asks one application at most: none if `NotOwner` came; and if a Reply came, the one that gave its text, or none, and the text says that an agent had no place.
 ///
-/// A request that may not be performed twice, over a [`OnceLink`] of any network, so asks one application in all at most, of the agent that it entered at
+/// A request that may not be performed twice, over a [`OnceLink`](agent_api::OnceLink) of any network, so asks one application in all at most, of the agent that it entered at
 /// or of one to which a Forward came. If it has an answer, that one gave the text, or the text says that an agent had no place. If it has an error, the only
 /// one that can have been asked is the agent's own, whose error it is; or another whose answer was lost, or was neither a Reply nor `NotOwner`, and then the
 /// link notes a doubt. Its client is told so: a refusal

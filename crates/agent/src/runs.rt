@@ -3,39 +3,29 @@ ghost use Rattle.std.specs.Prelude.{◌≡◌, ◌||◌, ◌/◌, ◌*◌, ◌^�
 ghost use Rattle.std.specs.Duration.{as_nanos};
 ghost use Rattle.std.specs.Io.KnownBytes.{Appends};
 ghost use Rattle.change_core.specs.Address.{ip_of};
-ghost use Rattle.cluster_core.specs.Limits.{IsStandard};
+ghost use Rattle.transport.specs.Limits.{IsStandard};
 ghost use Rattle.line_service.specs.Timeouts.{AreStandardTimeouts};
 ghost use Rattle.locked_node.specs.Passes.{opening_of};
 ghost use Rattle.agent.specs.Settings.{IsNodeOf, is_local, seed_of};
 ghost use Rattle.agent.specs.Texts.{agent_text, serving_line};
 ghost use Rattle.wire_json.specs.Input.{AppendsPrefix};
 
-use crate::acceptors::{end_http, set_places, start_http};
-use crate::agents::{Agent, Flag};
-use crate::callers::{Caller, Passes};
-use crate::errors::AgentError;
-use crate::hands::serve_requests;
-use crate::host_files::{Hosts, renew_hosts};
-use crate::hosts::join_hosts;
-use crate::peers::Job;
-use crate::ports::{READERS, set_port_places, start_port};
-use crate::rejections::Refused;
-use crate::rounds::make_rounds;
-use crate::services::{await_service, watch_service};
+use crate::notices::start_notices;
+use crate::services::{await_service, start_watch};
 use crate::settings::Settings;
-use crate::tellers::{Teller, start_notices};
+use agent_api::{end_http, set_http_places, start_http};
 use agent_application::{Application, ApplicationOptions};
-use agent_core::Watch;
 use agent_http::Kept;
+use agent_node::{Agent, AgentError, Hosts, Lifecycle, Passes, Refused, Teller, renew_hosts};
+use agent_peers::{READERS, set_port_places, start_joins, start_port, start_rounds};
 use agent_state::{
     Count, Counters, Logger, Notices, Process, System, Waiting, Watchers, share_log, start_log,
 };
-use change_core::{Address, Change, Incarnation, MAX_NUMBER, Moment};
-use cluster_core::{share, socket_address};
-use crossbeam_channel::{Receiver, bounded};
+use change_core::{Address, Incarnation, MAX_NUMBER, Moment};
 use hash_ring::Sha256Hash;
 use kept_links::Pool;
 use line_service::{Stopwatch, Timeouts};
+use locked_node::LockedNode;
 use log::warn;
 use node_core::{Config, NodeError, NodeState};
 use reactor::{Lot, Places, max_descriptors};
@@ -44,9 +34,8 @@ use std::fs::Files;
 use std::io::Write;
 use std::net::TcpListener;
 use std::sync::{Arc, Mutex};
-use std::thread;
-use std::thread::Parker;
 use std::time::Duration;
+use transport::socket_address;
 use wire_json::write_line;
 
 /// The greatest number of threads of an agent for other nodes and its application: those of the node's port, the one that makes rounds, the one
@@ -55,9 +44,6 @@ pub const NODE_THREADS: u32 = READERS + 5;
 
 /// The number of passes for threads, each for 4,294,967,295 calls.
 const PASSES: u32 = 1_023;
-
-/// The most requests of other nodes that wait for the application.
-const MAX_QUEUED_REQUESTS: usize = 256;
 
 /// The most connections to other nodes that rest.
 const MAX_SPARES: u64 = 128;
@@ -130,7 +116,7 @@ fn passes_of<R: System>(rt: &R, alloc: Global, settings: &Settings) -> Result<Pa
     ensures { IfOk result (λ passes. IsNodeOf settings.now (opening_of passes.node)) }
 {
     let node = node_of(rt, alloc, settings)?;
-    let (node, _pass, passes) = share(alloc, node, PASSES)?;
+    let (node, _pass, passes) = LockedNode::share(alloc, node, PASSES)?;
     Ok(Passes::new(Arc::new(alloc, node)?, passes))
 }
 
@@ -185,17 +171,18 @@ fn agent_of<R: System + Files>(
     alloc: Global,
     settings: &Settings,
 ) -> Result<Arc<Agent<R>, Global>, AgentError> {
-    let hosts = Hosts::read(rt, alloc, settings)?;
+    let (own, given) = (settings.address, settings.hosts.as_slice());
+    let hosts = Hosts::read(rt, alloc, own, given, &settings.hosts_file)?;
     let passes = passes_of(rt, alloc, settings)?;
     let stopwatch = Stopwatch::start(rt);
     let spares = spares_with(max_descriptors().unwrap_or(u64::MAX));
-    let is_json = settings.log_json;
-    let log = start_log(rt, alloc, settings.address, settings.level, is_json)?;
+    let leave_after = settings.following.leave_after.saturating_mul(1_000);
+    let log = start_log(rt, alloc, own, settings.level, settings.log_json)?;
     let application = application_of(rt, alloc, &log, stopwatch, settings)?;
     let agent = Agent {
         rt: *rt,
         log,
-        own: settings.address,
+        own,
         cluster: settings.cluster.clone()?,
         replicas: settings.replicas,
         period: settings.period,
@@ -220,18 +207,8 @@ fn agent_of<R: System + Files>(
         notices: Notices::new(alloc),
         disowners: Notices::new(alloc),
         refused: Refused::new(alloc),
-        is_starting: Flag::new(hosts.count.get() > 0),
-        has_joined: Flag::new(hosts.count.get() == 0),
+        life: Lifecycle::new(hosts.count.get() > 0, leave_after),
         hosts,
-        has_left: Flag::new(false),
-        moving: Mutex::new(Watch::new(settings.following.leave_after.saturating_mul(1_000))),
-        is_service_up: Flag::new(true),
-        last_round: Count::new(),
-        has_moved: Flag::new(false),
-        is_stopping: Flag::new(false),
-        is_spent: Flag::new(false),
-        wake: Parker::new(),
-        spread: Parker::new(),
     };
     Ok(Arc::new(alloc, agent)?)
 }
@@ -242,81 +219,6 @@ fn listen<R: System>(rt: &R, address: Address) -> Result<TcpListener, AgentError
         address,
         error.kind(),
     ))
-}
-
-/// Returns the node with a pass for another thread.
-fn caller_of<R: System>(agent: &Agent<R>) -> Result<Caller, AgentError> {
-    agent.next_caller().ok_or(AgentError::Spent)
-}
-
-/// Starts the threads that have the application answer other nodes.
-fn start_hands<R: System>(
-    rt: &R,
-    alloc: Global,
-    agent: &Arc<Agent<R>, Global>,
-    jobs: &Receiver<Job>,
-    count: u32,
-) -> Result<(), AgentError> {
-    for _ in 0..count {
-        let caller = caller_of(agent)?;
-        let agent = Arc::try_clone(agent)?;
-        let jobs = jobs.clone()?;
-        let started = thread::spawn(rt, move || serve_requests(agent, alloc, caller, jobs));
-        let _thread = started.map_err(|_| AgentError::NoThread)?;
-    }
-    Ok(())
-}
-
-/// Starts the thread that makes the rounds.
-fn start_rounds<R: System>(
-    rt: &R,
-    alloc: Global,
-    agent: &Arc<Agent<R>, Global>,
-    initial: Option<Change>,
-    hosts: Vec<Address>,
-    period: u64,
-) -> Result<(), AgentError> {
-    let caller = caller_of(agent)?;
-    let agent = Arc::try_clone(agent)?;
-    let started = thread::spawn(
-        rt,
-        move || make_rounds(agent, alloc, caller, initial, hosts, period),
-    );
-    let _thread = started.map_err(|_| AgentError::NoThread)?;
-    Ok(())
-}
-
-/// Starts the thread that asks the hosts, if there are any or may be.
-fn start_joins<R: System>(
-    rt: &R,
-    alloc: Global,
-    agent: &Arc<Agent<R>, Global>,
-    hosts: Vec<Address>,
-) -> Result<(), AgentError> {
-    if !agent.hosts.may_come() {
-        return Ok(());
-    }
-    let caller = caller_of(agent)?;
-    let agent = Arc::try_clone(agent)?;
-    let started = thread::spawn(rt, move || join_hosts(agent, alloc, caller, hosts));
-    let _thread = started.map_err(|_| AgentError::NoThread)?;
-    Ok(())
-}
-
-/// Starts the thread that looks after the service, if there is one.
-fn start_watch<R: System>(
-    rt: &R,
-    agent: &Arc<Agent<R>, Global>,
-    app: Option<Address>,
-) -> Result<(), AgentError> {
-    let Some(at) = app else {
-        return Ok(());
-    };
-    let caller = caller_of(agent)?;
-    let agent = Arc::try_clone(agent)?;
-    let started = thread::spawn(rt, move || watch_service(agent, caller, at));
-    let _thread = started.map_err(|_| AgentError::NoThread)?;
-    Ok(())
 }
 
 /// Writes a line and flushes.
@@ -340,12 +242,13 @@ fn say_serving<W: Write>(alloc: Global, address: Address, writer: &mut W) -> Res
 fn watch_process<R: System + Files>(rt: &R, alloc: Global, agent: &Agent<R>) {
     let mut told = None;
     for _ in rt.forever() {
-        if agent.is_stopping.get() || agent.is_spent.get() {
+        if agent.life.is_stopping.get() || agent.life.is_spent.get() {
             return;
         }
         agent.process.look(rt, alloc);
         renew_hosts(rt, alloc, agent, &mut told);
         agent
+            .life
             .wake
             .park_timeout(rt, Duration::from_millis(BETWEEN_LOOKS));
     }
@@ -361,16 +264,17 @@ fn wait_for_end<R: System + Files>(
     lot: Option<Arc<Lot<Kept>, Global>>,
 ) -> Result<(), AgentError> {
     watch_process(rt, alloc, agent);
-    if agent.is_spent.get() {
+    if agent.life.is_spent.get() {
         return Err(AgentError::Spent);
     }
     agent
+        .life
         .spread
         .park_timeout(rt, Duration::from_millis(MAX_SPREADING));
     if let Some(lot) = lot {
         end_http(rt, agent, &*lot);
     }
-    if agent.is_service_up.get() {
+    if agent.life.is_service_up.get() {
         agent.teller.await_told(rt);
     }
     Ok(())
@@ -385,7 +289,7 @@ fn start<R: System>(
     settings: Settings,
 ) -> Result<Option<Arc<Lot<Kept>, Global>>, AgentError> {
     if settings.http.is_some() {
-        set_places(&**agent, settings.http_connections)?;
+        set_http_places(&**agent, settings.http_connections)?;
     }
     set_port_places(&**agent);
     let listener = listen(rt, settings.bind)?;
@@ -393,22 +297,20 @@ fn start<R: System>(
         Some(address) => Some(listen(rt, address)?),
         None => None,
     };
-    let mut first = caller_of(agent)?;
+    let mut first = agent.next_caller()?;
     if !settings.following.no_wait {
         await_service(agent, &mut first)?;
     }
     let initial = first.own(rt).ok();
-    let (hands, jobs) = bounded(alloc, MAX_QUEUED_REQUESTS)?;
     start_watch(rt, agent, settings.app)?;
-    start_port(rt, alloc, agent, listener, &hands)?;
-    start_hands(rt, alloc, agent, &jobs, settings.hands)?;
+    start_port(rt, alloc, agent, listener)?;
     let lot = match http {
         Some(http) => Some(start_http(rt, alloc, agent, http)?),
         None => None,
     };
-    start_notices(rt, alloc, agent, &settings)?;
+    start_notices(rt, alloc, agent, settings.told_app())?;
     let hosts = agent.hosts.known(rt)?;
-    start_rounds(rt, alloc, agent, initial, hosts.clone()?, settings.period)?;
+    start_rounds(rt, alloc, agent, initial, hosts.clone()?)?;
     start_joins(rt, alloc, agent, hosts)?;
     Ok(lot)
 }
@@ -472,6 +374,7 @@ fn serve<R: System + Files, W: Write>(
 /// - `NotLocal`: the address for HTTP is not in 127.0.0.0/8, and `http_any` is not set. This is checked first.
 /// - `NoAddress`: the node's own address is 0.0.0.0 with a port. This is checked second.
 /// - `CannotRead`: the file of hosts can't be read, with the system's reason. Read again later, this only has the log say so.
+/// - `NotAFile`: the file of hosts is no regular file. This, too.
 /// - `BadHosts`: the file of hosts lists none. This, too.
 /// - `NoClock`: no incarnation is given, and the system has no clock, or its clock gives no time since 1970.
 /// - `BadConfig`: a field of the node's configuration is out of its range.

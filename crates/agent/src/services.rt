@@ -1,10 +1,8 @@
 //! The thread that looks after the service, the application of an agent: the node is in the ring only while the service takes
 //! connections.
-use crate::agents::Agent;
-use crate::callers::Caller;
-use crate::errors::AgentError;
 use agent_core::{Move, Notice, Sight};
-use agent_state::Host;
+use agent_node::{Agent, AgentError, Caller};
+use agent_state::{Host, System};
 use change_core::Address;
 use log::{info, warn};
 use std::alloc::Global;
@@ -28,12 +26,12 @@ pub fn await_service<R: Host>(agent: &Agent<R>, caller: &mut Caller) -> Result<(
     if agent.application.is_up() {
         return Ok(());
     }
-    agent.is_service_up.set(false);
-    let mut watch = agent.moving.lock(&agent.rt);
+    agent.life.is_service_up.set(false);
+    let mut watch = agent.life.moving.lock(&agent.rt);
     caller.leave(&agent.rt).map_err(|_| AgentError::Memory)?;
     watch.set_out();
-    agent.set_left();
-    agent.is_starting.set(false);
+    agent.life.set_left();
+    agent.life.is_starting.set(false);
     warn!(agent.log(); "the application accepts no connection: this node joins once it does");
     Ok(())
 }
@@ -72,7 +70,7 @@ impl<'a, R: Host> Lookout<'a, R> {
             Move::Leave => {
                 let is_made = self.caller.leave(&agent.rt).is_ok();
                 if is_made {
-                    agent.set_left();
+                    agent.life.set_left();
                     warn!(agent.log(); "this node leaves the ring, since its application accepts no connection");
                 }
                 is_made
@@ -81,7 +79,7 @@ impl<'a, R: Host> Lookout<'a, R> {
                 agent.await_hosts();
                 let is_made = self.caller.rejoin(&agent.rt).is_ok();
                 if is_made {
-                    agent.set_back();
+                    agent.life.set_back();
                     info!(agent.log(); "this node comes into the ring, since its application accepts connections");
                 }
                 is_made
@@ -93,17 +91,17 @@ impl<'a, R: Host> Lookout<'a, R> {
     fn look(&mut self) {
         let agent = self.agent;
         let takes = agent.application.is_up();
-        agent.is_service_up.set(takes);
+        agent.life.is_service_up.set(takes);
         self.log_service(takes);
-        let mut watch = agent.moving.lock(&agent.rt);
-        if agent.is_stopping.get() {
+        let mut watch = agent.life.moving.lock(&agent.rt);
+        if agent.life.is_stopping.get() {
             return;
         }
         let now = agent.now();
         let step = watch.note(Sight {
             now: now.number(),
             takes,
-            has_left: agent.has_left.get(),
+            has_left: agent.life.has_left.get(),
         });
         let is_made = self.make(step);
         if self.move_notice.note(!is_made, now) && !is_made {
@@ -114,7 +112,7 @@ impl<'a, R: Host> Lookout<'a, R> {
 }
 
 /// Looks after the service at an address until the agent is to end.
-pub fn watch_service<R: Host>(agent: Arc<Agent<R>, Global>, caller: Caller, at: Address) {
+fn watch_service<R: Host>(agent: Arc<Agent<R>, Global>, caller: Caller, at: Address) {
     let agent = &*agent;
     let mut lookout = Lookout {
         agent,
@@ -125,14 +123,36 @@ pub fn watch_service<R: Host>(agent: Arc<Agent<R>, Global>, caller: Caller, at: 
     };
     for _ in agent.rt.forever() {
         lookout.look();
-        if agent.is_stopping.get() {
+        if agent.life.is_stopping.get() {
             return;
         }
-        let rest = if agent.has_left.get() {
+        let rest = if agent.life.has_left.get() {
             BETWEEN_LOOKS_OUT
         } else {
             BETWEEN_LOOKS
         };
         thread::sleep(&agent.rt, Duration::from_millis(rest));
     }
+}
+
+/// Starts the thread that looks after the service at an address, if there is one.
+///
+/// # Errors
+///
+/// - `Spent`: the thread needs a pass of the node, and none is left.
+/// - `NoThread`: the system gave no thread.
+/// - `Memory`: out of memory.
+pub fn start_watch<R: System>(
+    rt: &R,
+    agent: &Arc<Agent<R>, Global>,
+    app: Option<Address>,
+) -> Result<(), AgentError> {
+    let Some(at) = app else {
+        return Ok(());
+    };
+    let caller = agent.next_caller()?;
+    let agent = Arc::try_clone(agent)?;
+    let started = thread::spawn(rt, move || watch_service(agent, caller, at));
+    let _thread = started.map_err(|_| AgentError::NoThread)?;
+    Ok(())
 }

@@ -15,7 +15,6 @@ use agent_core::{
 use agent_http::{Answer, Asked, Wanted, exchange, kind_of, names_json, refused_body};
 use agent_state::{Count, Host, Logger, Notices, Times};
 use change_core::Address;
-use cluster_core::{Deadline, Timed, socket_address};
 use http1::{Client, Header, Limits};
 use line_service::Stopwatch;
 use log::{info, warn};
@@ -28,6 +27,7 @@ use std::io::ErrorKind;
 use std::net::TcpStream;
 use std::sync::{Mutex, MutexGuard, Wait};
 use std::time::{Duration, Instant};
+use transport::{Deadline, Timed, socket_address};
 
 /// The most milliseconds for a request to the application and its answer, connecting and a second try included.
 const MAX_APPLICATION_MILLIS: u64 = 4_000;

@@ -8,7 +8,7 @@ use agent_core::{
 };
 use agent_http::Reply;
 use change_core::{Address, Change, Digest, Status};
-use std::sync::atomic::{AtomicU64, Ordering};
+use std::sync::atomic::{AtomicBool, AtomicU64, Ordering};
 use std::time::{Clock, Duration, Instant};
 
 /// A count to which threads add.
@@ -57,6 +57,27 @@ impl Count {
 
     /// Returns the count.
     pub fn get(&self) -> u64 {
+        self.0.load(Ordering::SeqCst)
+    }
+}
+
+/// A flag that threads set and read.
+#[derive(Drop)]
+pub struct Flag(AtomicBool);
+
+impl Flag {
+    /// Makes a flag with this value.
+    pub fn new(value: bool) -> Flag {
+        Flag(AtomicBool::new(value))
+    }
+
+    /// Sets the flag to a value.
+    pub fn set(&self, value: bool) {
+        self.0.store(value, Ordering::SeqCst);
+    }
+
+    /// Returns the flag's value.
+    pub fn get(&self) -> bool {
         self.0.load(Ordering::SeqCst)
     }
 }

@@ -1,5 +1,5 @@
-//! The state that the threads of an agent share, its node and its application excepted: counters, the log and what it said last, the
-//! places of requests that wait, the questions that wait until the ring changes, and what the process uses.
+//! What the threads of an agent share that knows no node: counters and flags, the log and what it said last, the places of requests that wait, the
+//! questions that wait until the ring changes, and what the process uses.
 #![tactic(auto)]
 
 mod changes;
@@ -12,7 +12,7 @@ mod waiting;
 mod watchers;
 
 pub use changes::{is_refuted, log_changes, log_since_start};
-pub use counters::{Count, Counters, Times, told};
+pub use counters::{Count, Counters, Flag, Times, told};
 pub use journals::{LogError, Logger, share_log, start_log};
 pub use notices::Notices;
 pub use processes::Process;

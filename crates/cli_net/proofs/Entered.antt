@@ -4,11 +4,10 @@ use Rattle.std.proofs.lemmas.Bool.{false≢true}
 use Rattle.std.proofs.lemmas.List.Elements.{All-pop}
 use Rattle.change_core.specs.declared.addresses.Address.{Address}
 use Rattle.locked_node.specs.declared.node.LockedNode.{LockedNode}
-use Rattle.locked_node.specs.Passes.{NodePass, IsClosed, IsNew, opening_of}
+use Rattle.locked_node.specs.Passes.{NodePass, AreAll, AreFresh, IsClosed, IsNew, opening_of}
 use Rattle.peer_core.specs.Links.{MayAnswer}
 use Rattle.node_core.specs.Node.{Seen}
 use Rattle.peer_core.specs.Acts.{Makes}
-use Rattle.cluster_core.specs.Clusters.{AreAll, AreFresh}
 use Rattle.cli_net.specs.Service.{HasEnded, HasEntered, HasServed, IsCreated, IsEndFault, IsJoinedTo, IsPortFault, IsThreadFault, LeavesServing, TellsEntry, end_fault}
 use Rattle.cli_net.specs.declared.echoes.Echo.{Echo}
 use Rattle.server.specs.Starting.{IsHealedAs}

@@ -5,7 +5,7 @@ use Rattle.change_core.specs.declared.addresses.Address.{Address}
 use Rattle.message_core.specs.declared.messages.Message.{Message}
 use Rattle.peer_core.specs.declared.errors.LinkError.{LinkError}
 use Rattle.peer_core.specs.declared.errors.LinkError.TheVariants.{Io}
-use Rattle.cluster_core.specs.Sockets.{Dialled, IsSocketOf}
+use Rattle.transport.specs.Sockets.{Dialled, IsSocketOf}
 use Rattle.kept_links.specs.Exchanges.{CallsKept, GoesOver, IsAnsweredFrom, IsAskedAs, IsSentAs, Takes, cluster_over, keeps_over, net_over, spares_over}
 use Rattle.kept_links.specs.declared.kept_links.KeptLink.{KeptLink}
 use Rattle.cli_net.specs.Dialled.{dialled}

@@ -3,7 +3,7 @@ use Rattle.std.specs.Prelude.{ℕ, List, Option, Ok, Err}
 use Rattle.std.specs.declared.net.socket_addr.SocketAddr.{SocketAddr}
 use Rattle.serde_json.specs.Written.{compact_text}
 use Rattle.wire_json.specs.Messages.{message_data}
-use Rattle.cluster_core.specs.Sockets.{LeadsTo}
+use Rattle.transport.specs.Sockets.{LeadsTo}
 use Rattle.cluster_names.specs.Lines.{line_sent}
 use Rattle.kept_links.specs.Exchanges.{IsAskedAs}
 use Rattle.peer_core.specs.Links.{MayAnswer}

@@ -13,15 +13,13 @@ use Rattle.node_core.specs.Node.{Seen}
 use Rattle.node_core.specs.Parts.{seen_of}
 use Rattle.node_core.specs.World.{initial_node}
 use Rattle.locked_node.specs.declared.node.LockedNode.{LockedNode}
-use Rattle.locked_node.specs.Passes.{NodePass, IsClosed, IsNew, opening_of}
+use Rattle.locked_node.specs.Passes.{NodePass, AreAll, AreFresh, IsClosed, IsNew, opening_of}
 use Rattle.peer_core.specs.Acts.{Makes}
 use Rattle.peer_core.specs.declared.errors.ClusterError.{ClusterError}
 use Rattle.peer_core.specs.declared.errors.ClusterError.TheVariants as error
 use Rattle.peer_core.specs.Joining.{IsJoin}
-use Rattle.peer_core.specs.Links.{MayAnswer}
+use Rattle.peer_core.specs.Links.{MayAnswer, any_answer}
 use Rattle.peer_core.specs.Parts.{Does}
-use Rattle.cluster_core.specs.Channels.{any_answer}
-use Rattle.cluster_core.specs.Clusters.{AreAll, AreFresh}
 use Rattle.server.specs.Starting.{IsHealedAs}
 use Rattle.line_service.specs.Timeouts.{AreStandardTimeouts}
 use Rattle.cli_core.specs.Owner.{hash_by}

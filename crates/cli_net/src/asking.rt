@@ -8,12 +8,13 @@ use crate::faults::AskError;
 use crate::questions::{ask_for, write_text};
 use change_core::Address;
 use cli_core::AskWords;
-use cluster_core::{Dial, Link};
 use message_core::{Content, Keys, Text};
+use peer_core::Link;
 use std::alloc::Global;
 use std::io::Write;
 use std::sync::Wait;
 use std::time::Clock;
+use transport::Dial;
 
 /// A request for a key.
 fn request(alloc: Global, key: &str, body: &str) -> Result<Content, AskError>

@@ -10,7 +10,7 @@ use crate::owners::ask_any_over;
 use crate::serving::serve_run;
 use crate::telling::tell_over;
 use cli_core::ClusterCommand;
-use cluster_core::Link;
+use peer_core::Link;
 use server::Runtime;
 use std::alloc::Global;
 use std::io::{Read, Write};

@@ -3,14 +3,15 @@ ghost use Rattle.std.specs.Prelude.{◌≡◌};
 ghost use Rattle.cli_net.specs.Dialled.{dialled};
 
 use change_core::Address;
-use cluster_core::{Dial, Limits, Link, LinkError};
 use cluster_names::ClusterName;
 use kept_links::{KeptLink, Pool};
 use message_core::Message;
+use peer_core::{Link, LinkError};
 use std::alloc::Global;
 use std::marker::{Brand, PhantomData};
 use std::sync::Wait;
 use std::time::Clock;
+use transport::{Dial, Limits};
 
 /// The name of a cluster, for contracts alone; each call over a link picks it.
 pub trait Named {

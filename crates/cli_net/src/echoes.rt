@@ -1,8 +1,8 @@
 //! The handler of a server's requests.
 
 use change_core::Address;
-use cluster_core::{Handler, HandlerFault};
 use message_core::{Keys, Text};
+use peer_core::{Handler, HandlerFault};
 use std::alloc::Global;
 use std::sync::Wait;
 

@@ -7,7 +7,6 @@ use crate::looks::look_only;
 use crate::owners::find_owner;
 use change_core::Address;
 use cli_core::{AskAnyWords, AskWords, ClusterCommand, ServeWords};
-use cluster_core::{Dial, Limits, socket_address};
 use cluster_names::{BEFORE_NAME, ClusterName, is_name};
 use kept_links::{KeptLink, Pool};
 use message_core::Reason;
@@ -16,6 +15,7 @@ use std::net::{Net, TcpListener, TcpStream};
 use std::str;
 use std::sync::Wait;
 use std::time::{Clock, Duration};
+use transport::{Dial, Limits, socket_address};
 
 /// Within how many milliseconds a second look connects.
 const LOOK_MILLIS: u64 = 1000;

@@ -1,17 +1,16 @@
 //! The node of a server, and its passes.
 ghost use Rattle.std.specs.Prelude.{◌≡◌, ◌≢◌, ◌⊎◌, ◌<◌, ◌^◌, ◌++◌, ◌∷◌, [], Some, None, Err, length, IfOk, IfErr, IsOk, IsOkUnless, MatchResult};
 ghost use Rattle.std.specs.List.{All};
-ghost use Rattle.locked_node.specs.Passes.{Fits, opening_of};
-ghost use Rattle.cluster_core.specs.Clusters.{AreAll, AreFresh};
+ghost use Rattle.locked_node.specs.Passes.{AreAll, AreFresh, Fits, opening_of};
 ghost use Rattle.cli_net.specs.Service.{IsCreated, IsJoinedTo, join_fault};
 
 use crate::faults::ServeError;
 use change_core::{Address, Moment};
 use cli_core::ServeWords;
-use cluster_core::{ClusterError, Link, join, share};
 use hash_ring::PointHash;
 use locked_node::{LockedNode, NodePass};
 use node_core::{Config, NodeError, NodeState};
+use peer_core::{ClusterError, Link, join};
 use std::alloc::Global;
 use std::sync::Wait;
 
@@ -64,7 +63,7 @@ pub fn shared_node<H: PointHash>(
     ensures refusal { IsOkUnless result ServeError.OutOfMemory }
 {
     let node = node_of(alloc, hash, words)?;
-    match share(alloc, node, words.workers) {
+    match LockedNode::share(alloc, node, words.workers) {
         Ok(shared) => Ok(shared),
         Err(_) => Err(ServeError::OutOfMemory),
     }

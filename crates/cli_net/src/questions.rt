@@ -7,8 +7,8 @@ ghost use Rattle.cli_net.specs.Membership.{IsNotTold, IsTold};
 
 use crate::faults::AskError;
 use change_core::{Address, Digest, Incarnation};
-use cluster_core::{Link, LinkError};
 use message_core::{Changes, Content, Message, News};
+use peer_core::{Link, LinkError};
 use std::alloc::Global;
 use std::io::Write;
 use std::sync::Wait;

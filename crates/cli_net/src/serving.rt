@@ -4,7 +4,7 @@ ghost use Rattle.std.specs.Arc.{arc_value};
 ghost use Rattle.std.specs.Vec.{vec_capacity};
 ghost use Rattle.std.specs.Io.KnownBytes.{Appends};
 ghost use Rattle.wire_json.specs.Input.{AppendsPrefix};
-ghost use Rattle.cluster_core.specs.Channels.{any_answer};
+ghost use Rattle.peer_core.specs.Links.{any_answer};
 ghost use Rattle.std.specs.List.{All};
 ghost use Rattle.locked_node.specs.Passes.{Fits, IsClosed};
 ghost use Rattle.peer_core.specs.Acts.{Makes};
@@ -19,7 +19,6 @@ use crate::faults::ServeError;
 use crate::nodes::{join_hosts, shared_node};
 use change_core::Address;
 use cli_core::ServeWords;
-use cluster_core::{TcpLink, socket_address};
 use hash_ring::{PointHash, Sha256Hash, SumHash};
 use locked_node::NodePass;
 use node_core::NodeState;
@@ -30,6 +29,7 @@ use std::alloc::Global;
 use std::io::{ErrorKind, Write};
 use std::net::{Net, TcpListener, TcpStream};
 use std::time::Duration;
+use transport::{TcpLink, socket_address};
 use wire_json::write_line;
 
 /// Listens at an address, where a line has to be whole within the time limit.

@@ -11,13 +11,13 @@ use agent::System;
 use cli_core::subcommand_run;
 use cli_net::{ClusterCommandError, DialledLink, Named, cluster_command_run};
 use cli_words::{ClusterWords, Words};
-use cluster_core::Dial;
 use std::alloc::Global;
 use std::fs::Files;
 use std::io::{Read, Write};
 use std::marker::Brand;
 use std::sync::Wait;
 use std::time::Clock;
+use transport::Dial;
 
 /// Runs a command that speaks to nodes, over a link of their cluster.
 fn cluster_words_run<C: Named, R: System, D: Dial + Clock + Wait + Copy, I: Read, W: Write>(

@@ -1,15 +1,15 @@
 -- What a worker does to its node, message by message.
-use Rattle.std.proofs.Common.{◌≡◌, ℕ, ◌+◌, List, Result, subst}
+use Rattle.std.proofs.Common.{◌≡◌, ℕ, ◌+◌, List, subst}
 use Rattle.message_core.specs.declared.messages.Message.{Message}
 use Rattle.locked_node.specs.declared.node.LockedNode.{LockedNode}
 use Rattle.locked_node.specs.Passes.{NodePass}
-use Rattle.peer_core.specs.Acts.{Act, OfActs, Makes}
+use Rattle.peer_core.specs.Acts.{OfActs, Makes}
 use Rattle.peer_core.proofs.Acts.{chain_more, chain_none, chain_still, makes_as}
 use Rattle.peer_core.specs.Handling.{Handled, MayHandle, between, handled_shared, shared}
 use Rattle.peer_core.specs.Members.{Caller}
 use Rattle.peer_core.proofs.HandlingCounts.{serves_shared}
 use Rattle.peer_core.proofs.Served.{serves_as}
-use Rattle.cluster_core.specs.Channels.{any_answer}
+use Rattle.peer_core.specs.Links.{any_answer}
 use Rattle.cluster_core.specs.Working.{HasWorked, IsMessageServed, Repeats, ServesEach, ServesOnce, any_text}
 
 module _ {H A : Type 0} (locked : LockedNode H) (hash_of : H → List ℕ → ℕ) (handled : Handled A) where

@@ -9,13 +9,8 @@ use Rattle.message_core.specs.declared.messages.Message.{Message}
 use Rattle.cluster_core.specs.declared.channel_links.Job.{Job}
 use Rattle.cluster_core.specs.declared.channel_links.Job.TheVariants.{Serve, Stop}
 use Rattle.cluster_core.specs.declared.channel_links.Mailbox.{Mailbox}
-use Rattle.peer_core.specs.Links.{MayAnswer}
 use Rattle.peer_core.specs.declared.errors.LinkError.{LinkError}
 use Rattle.peer_core.specs.declared.errors.LinkError.TheVariants.{Closed, Memory}
-
--- the answer of a peer that is reached over channels may be any
-abbrev pub any_answer : MayAnswer
-any_answer to message answer = Unit {0}
 
 -- the posts of the nodes that a link reaches
 abbrev pub reached_by : ChannelLink → List Mailbox

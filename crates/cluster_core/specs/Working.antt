@@ -8,7 +8,7 @@ use Rattle.peer_core.specs.Acts.{OfActs, Chain, Makes, Times}
 use Rattle.peer_core.specs.Members.{Caller, Done}
 use Rattle.peer_core.specs.Handling.{Handled, Handlings, MayHandle, between, shared}
 use Rattle.peer_core.specs.Serving.{Serves}
-use Rattle.cluster_core.specs.Channels.{any_answer}
+use Rattle.peer_core.specs.Links.{any_answer}
 
 -- the result of a handler that only its workers know may be any
 abbrev pub any_text : MayHandle

@@ -3,15 +3,16 @@ ghost use Rattle.std.specs.Prelude.{◌≡◌, ◌≢◌, ◌⊎◌, ◌<◌, �
 ghost use Rattle.std.specs.List.{AllZip};
 ghost use Rattle.std.specs.Arc.{arc_value};
 ghost use Rattle.node_core.specs.Workers.{IsCrew};
-ghost use Rattle.locked_node.specs.Passes.{Fits, opening_of, passes_of};
-ghost use Rattle.cluster_core.specs.Channels.{any_answer, IsChannelFault, failures_of, reached_by};
-ghost use Rattle.cluster_core.specs.Clusters.{address_in, AreAll, AreApart, AreFresh, given_to, HasNoNode, HasNoPost, IsAbandoned, IsNotStarted, IsOfSeat, NodeDoes, NoneHas, SeatDoes, Seats, IsStarted};
+ghost use Rattle.locked_node.specs.Passes.{Fits};
+ghost use Rattle.cluster_core.specs.Channels.{IsChannelFault, failures_of, reached_by};
+ghost use Rattle.cluster_core.specs.Clusters.{address_in, AreApart, given_to, HasNoNode, HasNoPost, IsAbandoned, IsNotStarted, IsOfSeat, NodeDoes, NoneHas, SeatDoes, Seats, IsStarted};
 ghost use Rattle.cluster_core.specs.Working.{AnswersOnce, HasWorked, IsMessageServed, Repeats, ServesEach, ServesOnce};
 ghost use Rattle.peer_core.specs.Acts.{Makes};
 ghost use Rattle.peer_core.specs.Correcting.{IsCorrectingRound};
 ghost use Rattle.peer_core.specs.Errors.{IsHealRefusal, IsRoundRefusal};
 ghost use Rattle.peer_core.specs.Handling.{between, shared};
 ghost use Rattle.peer_core.specs.Healing.{IsHealing, after_round};
+ghost use Rattle.peer_core.specs.Links.{any_answer};
 ghost use Rattle.peer_core.specs.Members.{Done};
 ghost use Rattle.peer_core.specs.Parts.{let_in};
 ghost use Rattle.peer_core.specs.Rounds.{IsRound};
@@ -20,7 +21,7 @@ ghost use Rattle.peer_core.specs.Serving.{Serves};
 use crate::channel_links::{ChannelLink, Job, Mailbox, Outlet, ask_one, post_of};
 use crate::seats::{ServedNode, WorkerPromise};
 use change_core::{Address, Moment};
-use crossbeam_channel::{Receiver, Sender, unbounded};
+use crossbeam_channel::{Receiver, unbounded};
 use hash_ring::PointHash;
 use locked_node::{LockedNode, NodePass};
 use message_core::Message;
@@ -246,33 +247,6 @@ fn place_of<H: PointHash>(seats: &[ServedNode<H>], address: Address) -> Option<u
     seats.iter().position(|seat| seat.address == address)
 }
 
-/// Shares a node: returns it with the pass of its rounds, and, before that in the order of their numbers, a pass for
-/// each of `workers` workers, fewer than 1,024. Each may make 4,294,967,295 calls.
-///
-/// # Errors
-///
-/// - `AllocError`: out of memory. The node is dropped.
-pub fn share<H: PointHash>(
-    alloc: Global,
-    node: NodeState<H>,
-    workers: u32,
-) -> Result<(LockedNode<H>, NodePass<H>, Vec<NodePass<H>>), AllocError>
-    requires { workers < 1024 }
-    ensures node { IfOk result (λ r. (opening_of r.0 ≡ node) × (passes_of r.0 ≡ workers + 1)) }
-    ensures fits { IfOk result (λ r. Fits r.0 r.1 × All (Fits r.0) r.2.items) }
-    ensures count { IfOk result (λ r. length r.2.items ≡ workers) }
-    ensures all { IfOk result (λ r. AreAll r.0 (r.2.items ++ r.1 ∷ [])) }
-    ensures fresh { IfOk result (λ r. AreFresh r.0 (r.2.items ++ r.1 ∷ [])) }
-{
-    let Ok((locked, mut passes)) = LockedNode::new(alloc, node, workers + 1, u32::MAX) else {
-        return Err(AllocError);
-    };
-    let Some(pass) = passes.pop() else {
-        unreachable!()
-    };
-    Ok((locked, pass, passes))
-}
-
 /// Gives one worker the job to end. If out of memory for that, it tries again.
 fn stop_worker<R: Wait>(rt: &R, post: &Mailbox) {
     for _ in rt.forever() {
@@ -429,7 +403,7 @@ where
     ensures abandoned { IfErr result IsAbandoned }
 {
     let address = node.own().address;
-    let (locked, pass, passes) = share(alloc, node, workers)?;
+    let (locked, pass, passes) = LockedNode::share(alloc, node, workers)?;
     let node = Arc::new(alloc, locked)?;
     let link = ChannelLink::new(Arc::try_clone(posts)?);
     let workers = start_workers(rt, alloc, address, &node, passes, posts, handler, outlet)?;

@@ -6,11 +6,10 @@ use crate::messages::{content, member, message, moment, news, number_of, ping, r
 use crate::nodes::state;
 use crate::shared::{Host, System, again, check_refused, made};
 use change_core::{Address, Status};
-use cluster_core::{
-    ChannelLink, Cluster, ClusterError, Handler, HandlerFault, Link, LinkError, Round, StartError,
-};
+use cluster_core::{ChannelLink, Cluster, StartError};
 use hash_ring::SumHash;
 use node_core::NodeState;
+use peer_core::{ClusterError, Handler, HandlerFault, Link, LinkError, Round};
 use std::alloc::Global;
 use std::process::Abort;
 use std::sync::atomic::{AtomicU64, Ordering};

@@ -1,6 +1,6 @@
 //! A link and a handler that do as a test needs.
 use change_core::{Address, Change, Digest, Incarnation, Sourced, Status, Weight};
-use cluster_core::{Handler, HandlerFault, Link, LinkError};
+use peer_core::{Handler, HandlerFault, Link, LinkError};
 use std::alloc::Global;
 use std::sync::Wait;
 use std::sync::atomic::{AtomicU64, Ordering};

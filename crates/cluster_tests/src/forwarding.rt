@@ -7,7 +7,7 @@ use crate::fakes::{Counting, Mood};
 use crate::messages::{keys, number_of, text};
 use crate::shared::{ALONE, AMONG_ONE, Caller, Host, Shared, Start, comes, let_go, met};
 use change_core::{Address, Moment};
-use cluster_core::{Clock, ClusterError, Link, LinkError, handle_or_forward};
+use peer_core::{Clock, ClusterError, Link, LinkError, handle_or_forward};
 use std::alloc::Global;
 use std::sync::Wait;
 use std::sync::atomic::{AtomicU64, Ordering};

@@ -5,9 +5,10 @@ use crate::messages::{member, moment, news};
 use crate::nodes::{hear, state};
 use crate::shared::{Host, System, again, check_refused};
 use change_core::Status;
-use cluster_core::{Cluster, Healing};
+use cluster_core::Cluster;
 use hash_ring::SumHash;
 use node_core::NodeState;
+use peer_core::Healing;
 use std::process::Abort;
 
 /// The node of this number, which has heard by a third one of the other in this status, at the incarnation that it has.

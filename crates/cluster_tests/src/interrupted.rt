@@ -1,10 +1,10 @@
 //! Streams with a deadline, whose calls a signal interrupts.
-use cluster_core::{Deadline, Timed};
 use std::io;
 use std::io::{ErrorKind, Read, Write};
 use std::net::OpenStream;
 use std::process::Abort;
 use std::time::{Clock, Duration, Instant};
+use transport::{Deadline, Timed};
 
 /// A stream whose first calls, this many, are interrupted before it gives and takes all that it is asked for.
 #[derive(Drop)]

@@ -2,14 +2,15 @@
 use crate::messages::{content, member, message, request};
 use crate::shared::{Host, again};
 use change_core::Address;
-use cluster_core::{Dial, Limits, Link, LinkError};
 use kept_links::{KeptLink, Pool};
 use message_core::{Content, Message};
+use peer_core::{Link, LinkError};
 use std::cell::Cell;
 use std::io;
 use std::io::{ErrorKind, Read, Write};
 use std::net::{OpenStream, SocketAddr};
 use std::time::{Clock, Duration};
+use transport::{Dial, Limits};
 
 /// What a node does at the end of an answer, and until the next request.
 #[derive(Clone, Copy)]

@@ -1,4 +1,4 @@
-//! The tests of peer_core, cluster_core and kept_links.
+//! The tests of peer_core, transport, cluster_core and kept_links.
 #![tactic(auto)]
 
 /// The rows of a table, each on a line and ended by a semicolon.

@@ -5,11 +5,11 @@ use crate::forwarding::Still;
 use crate::messages::{keys, member as address, moment, text};
 use crate::shared::{ALONE, AMONG_ONE, Host, Start, again, comes, let_go, met};
 use change_core::Status;
-use cluster_core::{
+use hash_ring::SumHash;
+use peer_core::{
     CallError, Clock, ClusterError, Handler, JoinError, LeaveError, Link, Member, RejoinError,
     RequestError, RoundError,
 };
-use hash_ring::SumHash;
 use std::sync::Wait;
 
 /// A loop as a service has it, over any link, handler and clock: a request for each rider, and a round after each.

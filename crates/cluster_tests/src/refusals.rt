@@ -10,7 +10,7 @@ use crate::shared::{
     share,
 };
 use change_core::Digest;
-use cluster_core::ClusterError;
+use peer_core::ClusterError;
 
 #[test]
 fn a_node_is_shared_or_refused_memory(rt: HostRuntime) {

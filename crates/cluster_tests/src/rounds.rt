@@ -12,10 +12,10 @@ use crate::shared::{
     share, status,
 };
 use change_core::{Address, Moment, Status};
-use cluster_core::{ClusterError, Link, LinkError, Round, gossip_round, join};
 use detector_core::Running;
 use hash_ring::SumHash;
 use node_core::{ChangeList, NodeError, NodeState, Received, StopCause};
+use peer_core::{ClusterError, Link, LinkError, Round, gossip_round, join};
 use std::alloc::Global;
 use std::process::Abort;
 use std::sync::Wait;

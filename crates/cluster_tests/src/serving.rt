@@ -7,7 +7,7 @@ use crate::shared::{
     ALONE, AMONG_ONE, Caller, Host, Shared, Start, again, check_refused, let_go, met, status,
 };
 use change_core::Status;
-use cluster_core::serve_one;
+use peer_core::serve_one;
 use std::process::Abort;
 use turn_lock::LockError;
 use wire_json::{Content, Message, News, Reason};

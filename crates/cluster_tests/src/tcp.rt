@@ -2,7 +2,7 @@
 use crate::messages::{content, member, message, news, number_of, ping, request};
 use crate::shared::{Host, System, check_refused, comes, made};
 use change_core::{Address, Status};
-use cluster_core::{Limits, Link, LinkError, TcpLink, send_line, socket_address};
+use peer_core::{Link, LinkError};
 use std::alloc::Global;
 use std::io::{BufReader, Read, Write};
 use std::net::{Net, TcpListener, TcpStream};
@@ -10,6 +10,7 @@ use std::process::Abort;
 use std::thread::JoinHandle;
 use std::time::{Clock, Duration};
 use std::{io, thread};
+use transport::{Limits, TcpLink, send_line, socket_address};
 use wire_json::{Content, Field, Message, WireError, encode, read_line};
 
 /// A ping that tells of 10.0.0.9:1.

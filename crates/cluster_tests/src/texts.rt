@@ -1,11 +1,11 @@
 //! The texts of the errors of links and clusters.
 
-use cluster_core::{
+use message_core::WireError;
+use node_core::ConfigField;
+use peer_core::{
     CallError, ClusterError, JoinError, LeaveError, LinkError, RejoinError, RequestError,
     RoundError,
 };
-use message_core::WireError;
-use node_core::ConfigField;
 use std::alloc::Global;
 use std::fmt;
 use std::process::Abort;

@@ -1,5 +1,5 @@
 -- A message and its answer over a connection that may have been kept.
-use Rattle.std.specs.Prelude.{◌≡◌, ◌⊎◌, Bool, true, false, IsTrue, ℕ, List, [], ◌∷◌, ◌++◌, Option, Some, None, Result, Ok, Err, IfOk, IfSome}
+use Rattle.std.specs.Prelude.{◌≡◌, ◌⊎◌, Bool, true, false, IsTrue, ℕ, List, [], ◌∷◌, ◌++◌, Option, Some, None, Result, Err, IfOk, IfSome}
 use Rattle.std.specs.Io.KnownBytes.{Appends}
 use Rattle.std.specs.declared.net.socket_addr.SocketAddr.{SocketAddr}
 use Rattle.serde_json.specs.Written.{compact_text}
@@ -12,9 +12,9 @@ use Rattle.wire_json.specs.Lines.{IsLine}
 use Rattle.wire_json.specs.Messages.{MessageForm, message_data}
 use Rattle.peer_core.specs.declared.errors.LinkError.{LinkError}
 use Rattle.peer_core.specs.declared.errors.LinkError.TheVariants.{Io}
-use Rattle.cluster_core.specs.Limits.{limit_for}
-use Rattle.cluster_core.specs.Sockets.{Dialled, IsSocketOf}
-use Rattle.cluster_core.specs.declared.tcp_links.Limits.{Limits}
+use Rattle.transport.specs.Limits.{limit_for}
+use Rattle.transport.specs.Sockets.{Dialled, IsSocketOf}
+use Rattle.transport.specs.declared.tcp_links.Limits.{Limits}
 use Rattle.cluster_names.specs.Lines.{IsOwnLine, line_sent}
 use Rattle.kept_links.specs.Marks.{marked_text}
 use Rattle.kept_links.specs.declared.kept_links.KeptLink.{KeptLink}

@@ -1,38 +1,26 @@
 //! A link over sockets that keeps the connections over which requests went.
 ghost use Rattle.std.specs.Prelude.{◌≡◌, ◌≢◌, ◌<◌, ◌-◌, ◌^◌, ◌⊎◌, ◌↔◌, Err, IfErr, IfOk, IfSome, IsTrue, false};
-ghost use Rattle.cluster_core.specs.Deadlines.{limit_of, stream_of};
-ghost use Rattle.cluster_core.specs.Limits.{limit_for};
-ghost use Rattle.cluster_core.specs.Sockets.{IsTooLong};
+ghost use Rattle.transport.specs.Deadlines.{limit_of, stream_of};
+ghost use Rattle.transport.specs.Limits.{limit_for};
+ghost use Rattle.transport.specs.Sockets.{IsTooLong};
 ghost use Rattle.kept_links.specs.Exchanges.{CallsKept, IsAskedAs, IsMessageOf, IsSameBut, IsSentAs, cluster_over, failures_over, is_kept, is_request, keeps_over, limits_over, net_over, spares_over, Takes};
 ghost use Rattle.kept_links.specs.Marks.{inner_of};
-ghost use Rattle.peer_core.specs.Links.{IsNamed, fault_named};
+ghost use Rattle.peer_core.specs.Links.{IsNamed};
 ghost use Rattle.wire_json.specs.Input.{line_of};
 
 use crate::marks::{Marked, marked_line, noted};
 use crate::pools::Spares;
 use change_core::Address;
-use cluster_core::{
-    Deadline, Dial, Limits, Link, LinkError, Timed, send_owned_line, socket_address,
-};
 use cluster_names::{ClusterName, Line, line_sent, next_line, sorted};
 use message_core::{Content, Message, WireError};
+use peer_core::{Link, LinkError};
 use std::alloc::Global;
 use std::io;
 use std::io::{Read, Write};
 use std::sync::Wait;
 use std::time::Clock;
+use transport::{Deadline, Dial, Limits, Timed, fault_of, send_owned_line, socket_address};
 use wire_json::{decode, encode};
-
-/// Returns a link's error for an error of a line.
-fn fault_of(fault: WireError) -> LinkError
-    ensures { result ≡ fault_named fault }
-{
-    match fault {
-        WireError::Io => LinkError::Io,
-        WireError::Memory => LinkError::Memory,
-        fault => LinkError::Wire(fault),
-    }
-}
 
 /// Returns the message that a line is. One of another cluster is none, and is put aside.
 fn message_in(
@@ -284,8 +272,7 @@ impl<'a, N: Dial<Stream = P::Stream>, C: Clock, P: Spares> KeptLink<'a, N, C, P>
 
 impl<'a, N: Dial<Stream = P::Stream>, C: Clock, P: Spares> Link for KeptLink<'a, N, C, P> {
     ghost use Rattle.std.specs.Prelude.{◌+◌, ◌↔◌};
-    ghost use Rattle.peer_core.specs.Links.{failures_in};
-    ghost use Rattle.cluster_core.specs.Channels.{any_answer};
+    ghost use Rattle.peer_core.specs.Links.{any_answer, failures_in};
 
     ghost may_answer = { λ _ _ _. Unit {0} };
 

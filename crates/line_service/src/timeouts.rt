@@ -1,8 +1,8 @@
 //! The time limits for which a server waits for others.
 ghost use Rattle.line_service.specs.Timeouts.{AreStandardTimeouts};
 
-use cluster_core::Limits;
 use std::time::Duration;
+use transport::Limits;
 
 /// The time limits for which a server waits for others.
 #[derive(Clone, Copy, Debug, PartialEq, Eq)]

@@ -1,6 +1,6 @@
 -- A pass of a locked node, and the contract of a call by it.
-use Rattle.std.specs.Prelude.{◌≡◌, ℕ, ◌+◌, List, [], ◌∷◌, ◌++◌, length}
-use Rattle.std.specs.List.{All}
+use Rattle.std.specs.Prelude.{◌≡◌, ℕ, ◌+◌, ◌-◌, ◌^◌, List, [], ◌∷◌, ◌++◌, length, map}
+use Rattle.std.specs.List.{All, range_with_len}
 use Rattle.turn_lock.specs.declared.errors.CloseError.{CloseError}
 use Rattle.turn_lock.specs.declared.errors.LockError.{LockError}
 use Rattle.turn_lock.specs.declared.pass.Pass.{Pass}
@@ -53,6 +53,14 @@ module _ {H : Type 0} where
   -- a pass of the node that has seen nothing and may make `turns` calls
   abbrev pub IsNew : LockedNode H → ℕ → NodePass H → Type 0
   IsNew locked turns p = lock.IsNew locked.lock turns p
+
+  -- they are all the passes that were made with the node, in the order of their numbers
+  abbrev pub AreAll : LockedNode H → List (NodePass H) → Type 0
+  AreAll locked passes = AreOwn locked passes × (map lock.number_of passes ≡ range_with_len 0 (passes_of locked))
+
+  -- each has made no call, and may make the greatest number of calls
+  abbrev pub AreFresh : LockedNode H → List (NodePass H) → Type 0
+  AreFresh locked passes = All (IsNew locked (2 ^ 32 - 1)) passes
 
   -- It is the same pass, and these are the calls that it has made since, in as many turns.
   pub record Made (locked : LockedNode H) (old new : NodePass H) (entries : List (CallEntry H)) : Type 0 where

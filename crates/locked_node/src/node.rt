@@ -1,12 +1,12 @@
 //! The node that threads share: how it is made and how it is closed.
-ghost use Rattle.std.specs.Prelude.{◌≡◌, map, length, IfOk, IfErr, IsPermutation};
+ghost use Rattle.std.specs.Prelude.{◌≡◌, ◌<◌, ◌+◌, ◌++◌, ◌∷◌, [], map, length, IfOk, IfErr, IsPermutation};
 ghost use Rattle.std.specs.List.{All, range_with_len};
 
 use crate::errors::CloseRefused;
 use crate::held::Held;
 use hash_ring::PointHash;
 use node_core::NodeState;
-use std::alloc::Global;
+use std::alloc::{AllocError, Global};
 use std::fmt;
 use std::sync::Mutex;
 use turn_lock::{NewError, Pass, TurnLock};
@@ -31,7 +31,7 @@ pub struct LockedNode<H: PointHash> {
 
 impl<H: PointHash> LockedNode<H> {
     ghost use Rattle.turn_lock.specs.Passes.{number_of, IsInRange, IsNewError};
-    ghost use Rattle.locked_node.specs.Passes.{opening_of, name_of, passes_of, AreOwn, Fits, IsNew, IsClosed, RefusesToClose};
+    ghost use Rattle.locked_node.specs.Passes.{opening_of, name_of, passes_of, AreAll, AreFresh, AreOwn, Fits, IsNew, IsClosed, RefusesToClose};
 
     /// Shares the node by `passes` passes (1 to 1,024), each for `turns` calls (at least 1). Its name is the number of
     /// its address, the IPv4 number times 65,536 plus the port. The passes come in the order of their numbers, from 0
@@ -61,6 +61,33 @@ impl<H: PointHash> LockedNode<H> {
             Err(NewError::BadCount(held)) => Err(NewError::BadCount(held.node)),
             Err(NewError::Memory) => Err(NewError::Memory),
         }
+    }
+
+    /// Shares a node: returns it with the pass of its rounds, and, before that in the order of their numbers, a pass for
+    /// each of `workers` workers, fewer than 1,024. Each may make 4,294,967,295 calls.
+    ///
+    /// # Errors
+    ///
+    /// - `AllocError`: out of memory. The node is dropped.
+    pub fn share(
+        alloc: Global,
+        node: NodeState<H>,
+        workers: u32,
+    ) -> Result<(LockedNode<H>, NodePass<H>, Vec<NodePass<H>>), AllocError>
+        requires { workers < 1024 }
+        ensures node { IfOk result (λ r. (opening_of r.0 ≡ node) × (passes_of r.0 ≡ workers + 1)) }
+        ensures fits { IfOk result (λ r. Fits r.0 r.1 × All (Fits r.0) r.2.items) }
+        ensures count { IfOk result (λ r. length r.2.items ≡ workers) }
+        ensures all { IfOk result (λ r. AreAll r.0 (r.2.items ++ r.1 ∷ [])) }
+        ensures fresh { IfOk result (λ r. AreFresh r.0 (r.2.items ++ r.1 ∷ [])) }
+    {
+        let Ok((locked, mut passes)) = LockedNode::new(alloc, node, workers + 1, u32::MAX) else {
+            return Err(AllocError);
+        };
+        let Some(pass) = passes.pop() else {
+            unreachable!()
+        };
+        Ok((locked, pass, passes))
     }
 
     /// Takes the node back, after one history that is legal from the node that this one was made with: each pass had

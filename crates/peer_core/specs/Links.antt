@@ -17,6 +17,10 @@ use Rattle.peer_core.specs.declared.hearing.Heard.TheVariants as heard
 abbrev pub MayAnswer : Type 1
 MayAnswer = Address → Message → Result Message LinkError → Type 0
 
+-- any answer may come: nothing is known of what a peer says
+abbrev pub any_answer : MayAnswer
+any_answer to message answer = Unit {0}
+
 -- one call of a link, from its state before to that after: an address, a message, and the answer
 abbrev pub Went : Type 0 → Type 1
 Went L = Address → Message → Result Message LinkError → L → L → Type 0

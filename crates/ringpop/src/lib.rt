@@ -13,7 +13,6 @@ pub mod ring;
 pub mod wire;
 
 pub use change_core::{Address, Change, Incarnation, Status, Weight};
-pub use cluster_core::Limits;
 pub use hash_ring::{PointHash, Sha256Hash};
 pub use locked_node::NodePass;
 pub use message_core::{Keys, Text, WireError};
@@ -25,4 +24,5 @@ pub use server::{
     EndError, Ended, HealingPlan, MAX_HANDLES, RoundClock, Running, Runtime, Seat, Server,
     ServerError, Settings, StartError, Timeouts, start,
 };
+pub use transport::Limits;
 pub use turn_lock::LockError;

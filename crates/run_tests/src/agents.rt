@@ -2,7 +2,6 @@
 use crate::services::Service;
 use agent::{AgentError, Following, Settings, System, run};
 use change_core::{Address, Incarnation, Weight};
-use cluster_core::socket_address;
 use log::LevelFilter;
 use std::alloc::Global;
 use std::fs::Files;
@@ -13,6 +12,7 @@ use std::sync::atomic::{AtomicBool, Ordering};
 use std::thread::JoinHandle;
 use std::time::Duration;
 use std::{io, thread};
+use transport::socket_address;
 
 /// The number of points that a server has.
 pub(crate) const REPLICAS: u32 = 100;

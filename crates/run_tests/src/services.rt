@@ -2,12 +2,12 @@
 use crate::agents::{ask, body_of};
 use agent::System;
 use change_core::Address;
-use cluster_core::socket_address;
 use std::alloc::Global;
 use std::io::{Read, Write};
 use std::net::{TcpListener, TcpStream};
 use std::thread;
 use std::thread::JoinHandle;
+use transport::socket_address;
 
 /// The body of each request of a key, by which its end is known.
 pub(crate) const BODY: &str = "hi";

@@ -8,16 +8,17 @@ use crate::shared::{System, check_again};
 use crate::talks::{ECHO, MALFORMED, NOT_REACHED, PING_REQ};
 use change_core::{Moment, Status};
 use cli_net::Echo;
-use cluster_core::{Handler, HandlerFault, Limits, Member, TcpLink, share};
 use hash_ring::SumHash;
 use locked_node::{LockedNode, NodePass};
 use message_core::{Keys, Text};
 use node_core::{Config, NodeState};
+use peer_core::{Handler, HandlerFault, Member};
 use server::{Port, Server, Stopwatch, hear, respond, serve_connection};
 use std::alloc::Global;
 use std::net::TcpListener;
 use std::sync::Wait;
 use std::time::Duration;
+use transport::{Limits, TcpLink};
 
 /// 127.0.0.1:29177 at 1, made at 0, which holds a suspect as faulty this many milliseconds later, and was given at 0
 /// that 127.0.0.1:29170 is this at 1, if anything; None if out of memory.
@@ -43,7 +44,7 @@ fn shared_node(
 ) -> Option<(LockedNode<SumHash>, NodePass<SumHash>)>
     ensures { IfSome result (λ r. Fits r.0 r.1) }
 {
-    match share(rt.alloc(), node(rt, suspect_ms, status)?, 0) {
+    match LockedNode::share(rt.alloc(), node(rt, suspect_ms, status)?, 0) {
         Ok((node, pass, _others)) => Some((node, pass)),
         Err(_) => None,
     }

@@ -3,7 +3,8 @@ use crate::clocks::{Manner, NEVER, Peer, SILENT, Town, saying};
 use crate::shared::{Host, check_refused};
 use crate::talks::PING_REQ;
 use change_core::Address;
-use cluster_core::{Link, LinkError, TcpLink};
+use peer_core::{Link, LinkError};
+use transport::TcpLink;
 use wire_json::decode;
 
 /// The answer of a peer.

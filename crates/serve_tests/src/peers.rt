@@ -1,6 +1,6 @@
 //! A peer that answers as a test needs, lines to read, and a writer.
 use change_core::{Address, Digest, Incarnation};
-use cluster_core::{Link, LinkError};
+use peer_core::{Link, LinkError};
 use std::alloc::Global;
 use std::io;
 use std::io::{ErrorKind, Read, Write};

@@ -3,7 +3,6 @@ use crate::peers::Page;
 use crate::plans::{PATIENCE, Plan, local, words_of};
 use change_core::Address;
 use cli_net::{Runtime, ServeError, serve_run, serve_within};
-use cluster_core::{Limits, socket_address};
 use server::Timeouts;
 use std::alloc::Global;
 use std::cell::Cell;
@@ -16,6 +15,7 @@ use std::sync::{Arc, Wait};
 use std::thread;
 use std::thread::JoinHandle;
 use std::time::Duration;
+use transport::{Limits, socket_address};
 
 /// What a test without threads and sockets needs of the system.
 pub(crate) trait Host: Wait + AllocGlobal + Env + Abort {}

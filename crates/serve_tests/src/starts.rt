@@ -6,7 +6,6 @@ use crate::plans::{PATIENCE, incarnation, local, told};
 use crate::shared::{Host, System, check_again, check_refused, timeouts, turn};
 use change_core::{Digest, Moment, Status};
 use cli_net::Echo;
-use cluster_core::{TcpLink, socket_address};
 use hash_ring::Sha256Hash;
 use locked_node::NodePass;
 use message_core::{Changes, Content, Keys, Message, News, Text};
@@ -18,6 +17,7 @@ use std::io::{Read, Write};
 use std::net::{Net, TcpStream};
 use std::sync::Wait;
 use std::{fs, time};
+use transport::{TcpLink, socket_address};
 
 /// The port of the node that asks.
 const OWN: u16 = 29_184;

@@ -7,7 +7,7 @@ use Rattle.peer_core.specs.Handling.{MayHandle, between, handled_shared}
 use Rattle.peer_core.specs.Members.{Caller, Done}
 use Rattle.peer_core.proofs.Parts.{does_part}
 use Rattle.peer_core.proofs.Requesting.{requested_as}
-use Rattle.cluster_core.specs.Channels.{any_answer}
+use Rattle.peer_core.specs.Links.{any_answer}
 use Rattle.server.specs.Seats.{Requests}
 
 -- any moment may be told, and waited for

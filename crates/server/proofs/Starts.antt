@@ -9,8 +9,7 @@ use Rattle.node_core.specs.declared.configs.ConfigField.{ConfigField}
 use Rattle.node_core.specs.declared.errors.NodeError.{NodeError}
 use Rattle.node_core.specs.declared.errors.NodeError.TheVariants as node
 use Rattle.locked_node.specs.declared.node.LockedNode.{LockedNode}
-use Rattle.locked_node.specs.Passes.{Fits, NodePass, opening_of}
-use Rattle.cluster_core.specs.Clusters.{AreAll}
+use Rattle.locked_node.specs.Passes.{AreAll, Fits, NodePass, opening_of}
 use Rattle.server.specs.Running.{Started}
 use Rattle.server.specs.Starting.{AreCountsInRange, IsCreated, IsHealedAs, IsNotCreated, IsNotStarted, IsStarted, IsUnopened, error_of_server, start_error}
 use Rattle.server.specs.Working.{hosts_of}

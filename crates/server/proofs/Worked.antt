@@ -19,7 +19,7 @@ use Rattle.peer_core.specs.Parts.{Part, Does, let_in}
 use Rattle.peer_core.specs.Rounds.{IsRound}
 use Rattle.peer_core.proofs.Acts.{chain_still, makes_as, makes_none, makes_then}
 use Rattle.peer_core.proofs.HandlingCounts.{serves_shared}
-use Rattle.cluster_core.specs.Channels.{any_answer}
+use Rattle.peer_core.specs.Links.{any_answer}
 use Rattle.peer_core.specs.Handling.{Handlings, MayHandle, between, handled_shared, shared}
 use Rattle.line_service.specs.Answering.{AnswersInput, Hears, IsSame, IsSilent, Responds, StaysSilent}
 use Rattle.change_core.specs.declared.addresses.Address.{Address}

@@ -11,7 +11,7 @@ use Rattle.peer_core.specs.Forwarding.{IsRequest}
 use Rattle.peer_core.specs.Handling.{MayHandle}
 use Rattle.peer_core.specs.Joining.{IsJoin}
 use Rattle.peer_core.specs.Parts.{Part, Does}
-use Rattle.cluster_core.specs.Channels.{any_answer}
+use Rattle.peer_core.specs.Links.{any_answer}
 use Rattle.server.specs.declared.servers.Server.{Server}
 
 -- the server, and the handle

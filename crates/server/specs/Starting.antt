@@ -9,8 +9,7 @@ use Rattle.node_core.specs.Workers.{IsCrew}
 use Rattle.node_core.specs.World.{initial_node}
 use Rattle.node_core.specs.declared.errors.NodeError.{NodeError}
 use Rattle.node_core.specs.declared.errors.NodeError.TheVariants as node
-use Rattle.locked_node.specs.Passes.{NodePass, Fits, opening_of}
-use Rattle.cluster_core.specs.Clusters.{AreAll}
+use Rattle.locked_node.specs.Passes.{NodePass, AreAll, Fits, opening_of}
 use Rattle.server.specs.Running.{Started}
 use Rattle.line_service.specs.Timeouts.{AreStandardTimeouts}
 use Rattle.server.specs.Working.{hosts_of}

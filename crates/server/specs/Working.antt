@@ -13,7 +13,7 @@ use Rattle.peer_core.specs.Joining.{IsJoin}
 use Rattle.peer_core.specs.Parts.{let_in}
 use Rattle.peer_core.specs.Rounds.{IsRound}
 use Rattle.peer_core.specs.Handling.{Handled, Handlings, between}
-use Rattle.cluster_core.specs.Channels.{any_answer}
+use Rattle.peer_core.specs.Links.{any_answer}
 use Rattle.line_service.specs.Answering.{Hears, Responds, StaysSilent}
 use Rattle.server.specs.declared.healing.HealingPlan.{HealingPlan}
 use Rattle.line_service.specs.declared.inputs.Input.{Input}

@@ -7,7 +7,6 @@ ghost use Rattle.line_service.specs.Answering.{IsSame};
 ghost use Rattle.server.specs.Working.{IsAnsweredOver, IsConnection, IsConnectionOver, bytes_of, sent_for};
 
 use crate::servers::Server;
-use cluster_core::{Deadline, TcpLink, Timed, send_owned_line};
 use hash_ring::PointHash;
 use line_service::{Input, hear, respond};
 use peer_core::{HandlerMut, Member};
@@ -16,6 +15,7 @@ use std::io::{Read, Write};
 use std::net::{Net, OpenStream};
 use std::sync::Wait;
 use std::time::{Clock, Duration};
+use transport::{Deadline, TcpLink, Timed, send_owned_line};
 
 /// An input of another node, and the stream over which its answer goes back.
 #[derive(Drop)]

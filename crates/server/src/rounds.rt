@@ -1,7 +1,7 @@
 //! The rounds of a server, and what is done between them.
 ghost use Rattle.std.specs.Prelude.{◌≡◌, None, Some};
 ghost use Rattle.locked_node.specs.Passes.{Fits};
-ghost use Rattle.cluster_core.specs.Sockets.{limits_of};
+ghost use Rattle.transport.specs.Sockets.{limits_of};
 ghost use Rattle.peer_core.specs.Acts.{Makes};
 ghost use Rattle.line_service.specs.Answering.{IsSame};
 ghost use Rattle.server.specs.Working.{AreRounds, JoinsAt, JoinsIfDue, first_join, hosts_of};
@@ -10,12 +10,12 @@ use crate::healing::HealingPlan;
 use crate::round_clocks::RoundClock;
 use crate::servers::Server;
 use change_core::{Address, Moment};
-use cluster_core::TcpLink;
 use hash_ring::PointHash;
 use locked_node::NodePass;
 use peer_core::{Healing, Member};
 use std::alloc::Global;
 use std::net::Net;
+use transport::TcpLink;
 
 /// The milliseconds between two joins while no host has answered.
 const BETWEEN_JOINS: u64 = 1_000;

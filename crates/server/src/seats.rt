@@ -12,7 +12,6 @@ ghost use Rattle.server.specs.Seats.{Did, JoinsHosts, Replied, Requests};
 
 use crate::servers::Server;
 use change_core::{Address, Change};
-use cluster_core::TcpLink;
 use hash_ring::PointHash;
 use line_service::ServerClock;
 use locked_node::NodePass;
@@ -24,6 +23,7 @@ use std::marker::Model;
 use std::net::Net;
 use std::sync::{Arc, Wait};
 use std::time::Clock;
+use transport::TcpLink;
 use turn_lock::LockError;
 
 /// A seat at a server's node: the server, and a handle that fits its node, by which one thread of the service makes its calls.

@@ -1,7 +1,7 @@
 //! The part of a server that its threads share, and the work of each of them.
 ghost use Rattle.std.specs.Prelude.{◌≡◌, None, Some};
 ghost use Rattle.locked_node.specs.Passes.{Fits};
-ghost use Rattle.cluster_core.specs.Sockets.{limits_of};
+ghost use Rattle.transport.specs.Sockets.{limits_of};
 ghost use Rattle.peer_core.specs.Acts.{Makes};
 ghost use Rattle.line_service.specs.Answering.{IsSame};
 ghost use Rattle.line_service.specs.Timeouts.{AreStandardTimeouts};
@@ -10,7 +10,6 @@ ghost use Rattle.server.specs.Working.{ServesEach, hosts_of};
 use crate::connections::{Asked, answer_over};
 use crate::healing::HealingPlan;
 use change_core::Address;
-use cluster_core::{Deadline, TcpLink};
 use hash_ring::PointHash;
 use line_service::{MAX_READ, Port, Stopwatch, Timeouts, Turn, hear_arrived};
 use locked_node::{LockedNode, NodePass};
@@ -22,6 +21,7 @@ use std::sync::atomic::{AtomicBool, AtomicU64, Ordering};
 use std::sync::{Mutex, MutexGuard, Wait};
 use std::thread::Parker;
 use std::time::{Clock, Duration};
+use transport::{Deadline, TcpLink};
 
 /// The part of a server that its threads share.
 #[derive(Drop)]

@@ -2,8 +2,7 @@
 ghost use Rattle.std.specs.Prelude.{◌≡◌, ◌↔◌, ◌+◌, ◌<◌, ◌++◌, ◌∷◌, [], true, length, IfOk, IfErr, IsOkUnless};
 ghost use Rattle.std.specs.Vec.{vec_capacity};
 ghost use Rattle.std.specs.List.{All};
-ghost use Rattle.cluster_core.specs.Clusters.{AreAll};
-ghost use Rattle.locked_node.specs.Passes.{Fits, opening_of};
+ghost use Rattle.locked_node.specs.Passes.{AreAll, Fits, opening_of};
 ghost use Rattle.server.specs.Starting.{AreCountsInRange, AreStandardFor, IsCreated, IsHealedAs, IsNotCreated, IsNotStarted, IsStarted, IsUnopened, seed_of, start_error};
 
 use crate::errors::ServerError;
@@ -12,7 +11,6 @@ use crate::running::Running;
 use crate::runtimes::Runtime;
 use crate::servers::Server;
 use change_core::{Address, Incarnation, Moment};
-use cluster_core::{share, socket_address};
 use hash_ring::PointHash;
 use line_service::{Port, Stopwatch, Timeouts};
 use locked_node::{LockedNode, NodePass};
@@ -23,6 +21,7 @@ use std::io::ErrorKind;
 use std::net::{Net, TcpListener, TcpStream};
 use std::time::Duration;
 use thiserror::Error;
+use transport::socket_address;
 
 /// The greatest number of handles of a node for the threads of a service.
 pub const MAX_HANDLES: u32 = 1_000;
@@ -208,8 +207,11 @@ fn share_out<H: PointHash>(
     ensures room { IfOk result (λ r. settings.now.workers + settings.now.handles < vec_capacity r.2) }
     ensures refusal { IsOkUnless result StartError.Memory }
 {
-    let Ok((node, rounds, mut workers)) = share(alloc, node, settings.workers + settings.handles)
-    else {
+    let Ok((node, rounds, mut workers)) = LockedNode::share(
+        alloc,
+        node,
+        settings.workers + settings.handles,
+    ) else {
         return Err(StartError::Memory);
     };
     let Ok(()) = workers.reserve(1) else {

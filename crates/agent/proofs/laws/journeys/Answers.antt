@@ -1,4 +1,4 @@
-use Rattle.agent.specs.Onces.{noted_by, sends_once}
+use Rattle.agent_api.specs.Onces.{noted_by, sends_once}
 use Rattle.agent.proofs.Journeys.{clients_are_told, ends_meet, forwards_ask_one, requests_ask_one}
 use Rattle.agent.proofs.laws.journeys.Goals as goal
 

@@ -1,6 +1,6 @@
 use Rattle.std.proofs.Common.{None, ap, refl}
 use Rattle.cli_net.specs.declared.echoes.Echo.{Echo}
-use Rattle.cluster_core.specs.Channels.{any_answer}
+use Rattle.peer_core.specs.Links.{any_answer}
 use Rattle.peer_core.proofs.Acts.{said_so}
 use Rattle.cli_net.proofs.Entered.{MayFollow, cannot_begin, cannot_end, cannot_open, cannot_serve, had_hosts, kept_out_by, let_in_by, entered_by, served_by}
 use Rattle.cli_net.proofs.Written.{said_both, unsaid_first, unsaid_last}

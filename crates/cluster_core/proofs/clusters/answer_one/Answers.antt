@@ -3,7 +3,7 @@ use Rattle.peer_core.specs.Handling.{between}
 use Rattle.peer_core.specs.Members.{Done}
 use Rattle.peer_core.specs.Parts.{let_in}
 use Rattle.peer_core.specs.Serving.{Serves}
-use Rattle.cluster_core.specs.Channels.{any_answer}
+use Rattle.peer_core.specs.Links.{any_answer}
 use Rattle.cluster_core.proofs.clusters.answer_one.Goals as goal
 
 pub returns : goal.returns

@@ -1,5 +1,5 @@
 use Rattle.std.proofs.Common.{None, refl}
-use Rattle.cluster_core.specs.Deadlines.{stream_of}
+use Rattle.transport.specs.Deadlines.{stream_of}
 use Rattle.peer_core.specs.Handling.{between}
 use Rattle.server.proofs.Worked.{a_connection, over_heard, over_quiet}
 use Rattle.server.proofs.connections.serve_connection.Goals as goal

@@ -1,7 +1,7 @@
 use Rattle.std.proofs.Common.{◌∙◌, refl, set, subst, sym, List}
 use Rattle.std.specs.Arc.{arc_value}
 use Rattle.cluster_core.specs.declared.channel_links.Mailbox.{Mailbox}
-use Rattle.cluster_core.specs.Channels.{any_answer}
+use Rattle.peer_core.specs.Links.{any_answer}
 use Rattle.cluster_core.specs.Clusters.{NodeDoes, SeatState}
 use Rattle.peer_core.specs.Rounds.{IsRound}
 use Rattle.cluster_core.proofs.Crews.{node_did, same_addresses}

@@ -1,0 +1,10 @@
+use Rattle.node_core.specs.declared.events.Event.TheVariants as call
+use Rattle.node_core.specs.declared.events.Reply.TheVariants as reply
+use Rattle.peer_core.specs.Parts.{Tries}
+use Rattle.agent_node.proofs.Called.{as_seen, tried_once}
+use Rattle.agent_node.proofs.callers.Caller.digest.Goals as goal
+
+pub returns-clause-did : goal.returns-clause-did
+returns-clause-did g c =
+    as_seen (Tries call.Digest reply.Digest) c.answered.result c.args.self.now _ _ _ _ c.self.view_is c.deref.ensures
+    (tried_once _ _ _ _ call.Digest reply.Digest c.digest.result c.answered.result c.digest.ensures.called c.digest.ensures.refused c.answered.ensures)

@@ -1,0 +1,40 @@
+-- A thread of an agent as it calls the node.
+use Rattle.std.specs.Prelude.{◌≡◌, ◌⊎◌, ℕ, List, take, Ok, Err}
+use Rattle.std.specs.Int.{from_be_bytes, w64}
+use Rattle.sha2.specs.Sha256.{sha256}
+use Rattle.hash_ring.specs.declared.hash.Sha256Hash.{Sha256Hash}
+use Rattle.node_core.specs.Viewing.{Viewed}
+use Rattle.node_core.specs.declared.errors.NodeError.{NodeError}
+use Rattle.locked_node.specs.declared.node.LockedNode.{LockedNode}
+use Rattle.locked_node.specs.Passes.{NodePass}
+use Rattle.peer_core.specs.Acts.{OfActs, Just, Nothing, Makes, looked}
+use Rattle.peer_core.specs.Errors.{error_of_node}
+use Rattle.peer_core.specs.Parts.{Part, IsOfLock}
+
+-- The node, and the pass by which a thread calls it.
+pub record Calling : Type 0 where
+  pub node : LockedNode Sha256Hash
+  pub pass : NodePass Sha256Hash
+
+-- The node, and its passes that no thread has.
+pub record Unused : Type 0 where
+  pub node : LockedNode Sha256Hash
+  pub passes : List (NodePass Sha256Hash)
+
+-- the hash of bytes: the number that the first eight bytes of their SHA-256 write
+abbrev pub hash_number : List ℕ → ℕ
+hash_number bytes = from_be_bytes w64 (take 8 (sha256 bytes))
+
+-- the hash of the node's ring
+abbrev pub hash_of : Sha256Hash → List ℕ → ℕ
+hash_of hash = hash_number
+
+-- the node gave a view, or its error; or the lock refused the call
+abbrev pub Looks : Part Sha256Hash (Viewed Sha256Hash)
+Looks (Ok view) acts = Just (looked (Ok view)) acts
+Looks (Err e) acts = (Nothing acts × IsOfLock e) ⊎ ((n : NodeError) × Just (looked (Err n)) acts × (e ≡ error_of_node n))
+
+-- By its pass a thread made calls of its node that satisfy this.
+pub record HasMade (So : OfActs Sha256Hash) (old new : Calling) : Type 0 where
+  pub node : new.node ≡ old.node
+  pub makes : Makes old.node So old.pass new.pass

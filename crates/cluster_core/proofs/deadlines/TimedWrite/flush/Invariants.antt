@@ -1,7 +1,0 @@
-use Rattle.std.specs.Io.KnownBytes.{Keeps}
-use Rattle.cluster_core.specs.Deadlines.{stream_of}
-use Rattle.cluster_core.proofs.deadlines.TimedWrite.flush.Given as goal
-
--- the tries so far failed, and wrote nothing
-abbrev pub invariant-flushes : goal.invariant-flushes
-invariant-flushes g l = Keeps (g.S.Write.contents (stream_of l.initial.self)) (g.S.Write.contents (stream_of l.self))

@@ -1,0 +1,3 @@
+pub mod Deadlines
+pub mod Limits
+pub mod Sockets

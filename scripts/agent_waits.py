@@ -2,11 +2,13 @@
 
 A request whose owner is slow, hangs, or is dead ends in 504 once its wait is over, by a word that says whether it may have been performed; no send
 is begun later, and no node and no service is blamed for it. One with time enough is answered as it is without the field, and a value that is not a
-number of milliseconds is refused by a line that names the field.
+number of milliseconds is refused by a line that names the field. Last the owner is told to stop while its service performs a forwarded request, and
+answers it before it ends.
 """
 import signal
 import sys
 import time
+from concurrent.futures import ThreadPoolExecutor
 
 from agents import agree, counted, fetch, keys_of, running
 from nodes import PATIENCE, ROOT, Wrong, expect, is_late, wait_until
@@ -94,6 +96,18 @@ def check_silent(agents, key):
     wait_until("whole", PATIENCE, lambda: agree(agents))
 
 
+def check_stop(agents, key):
+    """An agent that is told to stop answers the request of another node that its service performs, and then ends."""
+    with ThreadPoolExecutor(1) as pool:
+        asked = pool.submit(ask, agents[0], key, None, "3.5")
+        time.sleep(0.5)
+        expect(agents[1].ask("POST", "/stop")[0] == 200, "an agent is not told to stop")
+        came, spent = asked.result()
+    expect(came == (200, "3.5", None), f"a forwarded request is answered {came} where its owner is told to stop")
+    expect(counted(agents[:1], "ringpop_link_failures_total") == 0 and not is_late(spent, 4.5), f"it is sent again where its owner is told to stop: {spent:.2f} s")
+    expect(agents[1].process.wait(PATIENCE) == 0, "an agent that is told to stop does not end")
+
+
 def check(program, port):
     with running(program, port, port + 1, app=SLOW, more=STILL) as agents:
         wait_until("agreed", PATIENCE, lambda: agree(agents))
@@ -105,3 +119,7 @@ def check(program, port):
         check_blame(agents[0], own)
         check_silent(agents, other)
         check_dead(agents, other, counted(agents[:1], "ringpop_forwards_total"))
+    with running(program, port, port + 1, app=SLOW) as agents:
+        wait_until("agreed", PATIENCE, lambda: agree(agents))
+        key, = keys_of(agents, agents[1], 1)
+        check_stop(agents, key.replace(" ", "%20"))

@@ -17,7 +17,7 @@ use agent_api::{end_http, set_http_places, start_http};
 use agent_application::{Application, ApplicationOptions};
 use agent_http::Kept;
 use agent_node::{Agent, AgentError, Hosts, Lifecycle, Passes, Refused, Teller, renew_hosts};
-use agent_peers::{READERS, set_port_places, start_joins, start_port, start_rounds};
+use agent_peers::{READERS, end_hands, set_port_places, start_joins, start_port, start_rounds};
 use agent_state::{
     Count, Counters, Logger, Notices, Process, System, Waiting, Watchers, share_log, start_log,
 };
@@ -176,7 +176,6 @@ fn agent_of<R: System + Files>(
     let passes = passes_of(rt, alloc, settings)?;
     let stopwatch = Stopwatch::start(rt);
     let spares = spares_with(max_descriptors().unwrap_or(u64::MAX));
-    let leave_after = settings.following.leave_after.saturating_mul(1_000);
     let log = start_log(rt, alloc, own, settings.level, settings.log_json)?;
     let application = application_of(rt, alloc, &log, stopwatch, settings)?;
     let agent = Agent {
@@ -198,6 +197,7 @@ fn agent_of<R: System + Files>(
         waiting: Waiting::new(alloc)?,
         relaying: Count::new(),
         keeping: Count::new(),
+        forwarded: Count::new(),
         workers: Count::new(),
         serving: Count::new(),
         http: Arc::new(alloc, Places::new())?,
@@ -207,7 +207,7 @@ fn agent_of<R: System + Files>(
         notices: Notices::new(alloc),
         disowners: Notices::new(alloc),
         refused: Refused::new(alloc),
-        life: Lifecycle::new(hosts.count.get() > 0, leave_after),
+        life: Lifecycle::new(hosts.count.get() > 0, settings.following.leave_after),
         hosts,
     };
     Ok(Arc::new(alloc, agent)?)
@@ -254,9 +254,9 @@ fn watch_process<R: System + Files>(rt: &R, alloc: Global, agent: &Agent<R>) {
     }
 }
 
-/// Waits until the agent is to end, then for the last rounds, five seconds at most, then until each HTTP connection that
-/// was accepted is closed, ten seconds at most, and last until the application was told that the node left, four seconds at most, unless it takes no
-/// connection.
+/// Waits until the agent is to end, then for the last rounds, five seconds at most, then until each HTTP connection that was accepted is closed, ten seconds at
+/// most, and no request of another node is left, 4.5 seconds at most, and last until the application was told that the node left, four seconds at most, unless
+/// it takes no connection.
 fn wait_for_end<R: System + Files>(
     rt: &R,
     alloc: Global,
@@ -274,6 +274,7 @@ fn wait_for_end<R: System + Files>(
     if let Some(lot) = lot {
         end_http(rt, agent, &*lot);
     }
+    end_hands(rt, agent);
     if agent.life.is_service_up.get() {
         agent.teller.await_told(rt);
     }
@@ -364,8 +365,8 @@ fn serve<R: System + Files, W: Write>(
 /// Runs an agent until it is told to stop. It listens to other nodes, joins the hosts, answers HTTP, starts the rounds of
 /// gossip, and writes `serving` and the node's address. When `POST /stop` comes, it leaves, makes ten rounds that spread
 /// this, answers the HTTP connections that wait, closes each after its next answer or after a second in which it sends
-/// nothing, ten seconds at most, waits until an application that is told of the ring was told this, four seconds at most, and
-/// writes `done`.
+/// nothing, ten seconds at most, answers the requests of other nodes that it has, 4.5 seconds at most, waits until an application that is told of the ring
+/// was told this, four seconds at most, and writes `done`.
 ///
 /// # Errors
 ///

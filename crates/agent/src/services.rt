@@ -76,10 +76,8 @@ impl<'a, R: Host> Lookout<'a, R> {
                 is_made
             }
             Move::Rejoin => {
-                agent.await_hosts();
-                let is_made = self.caller.rejoin(&agent.rt).is_ok();
+                let is_made = agent.come_back(&mut self.caller).is_ok();
                 if is_made {
-                    agent.life.set_back();
                     info!(agent.log(); "this node comes into the ring, since its application accepts connections");
                 }
                 is_made

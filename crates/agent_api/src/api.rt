@@ -513,12 +513,8 @@ impl<'f, 'a, R: Host> Api<'f, 'a, R> {
         if agent.life.is_stopping.get() {
             return Err(Refusal::HasLeft);
         }
-        agent.await_hosts();
-        match self.caller.rejoin(&agent.rt) {
-            Ok(_) => {
-                agent.life.set_back();
-                Ok(Reply::Line("back\n"))
-            }
+        match agent.come_back(self.caller) {
+            Ok(_) => Ok(Reply::Line("back\n")),
             Err(error) => Err(refusal_of(error)),
         }
     }

@@ -1,5 +1,8 @@
 //! An agent as all its threads see it: its node, its application, and the state that they share.
 ghost use Rattle.std.specs.Prelude.{◌≡◌, ◌≢◌, ◌*◌, ◌/◌, IfErr};
+ghost use Rattle.node_core.specs.declared.events.Event.TheVariants as call;
+ghost use Rattle.node_core.specs.declared.events.Reply.TheVariants as reply;
+ghost use Rattle.peer_core.specs.Parts.{Does, Tries};
 ghost use Rattle.turn_lock.specs.Passes.{left_of};
 
 use crate::callers::{Caller, Passes};
@@ -13,12 +16,13 @@ use agent_core::{Counts, KeptCounts, Notice, PortCounts};
 use agent_state::{
     Count, Counters, Host, Logger, MAX_QUESTIONS, Notices, Process, Waiting, Watchers,
 };
-use change_core::{Address, Moment};
+use change_core::{Address, Change, Moment};
 use cluster_names::ClusterName;
 use http::HeaderName;
 use kept_links::Pool;
 use line_service::{ServerClock, Stopwatch, Timeouts};
 use log::{info, warn};
+use peer_core::ClusterError;
 use reactor::Places;
 use std::alloc::Global;
 use std::io;
@@ -69,6 +73,8 @@ pub struct Agent<R> {
     pub relaying: Count,
     /// The number of hands that wait for the next request of a connection.
     pub keeping: Count,
+    /// The requests of other nodes that wait for a hand, and those that a hand answers.
+    pub forwarded: Count,
     /// The number of workers that answer HTTP.
     pub workers: Count,
     /// The number of them that serve a connection.
@@ -137,9 +143,30 @@ impl<R: Host> Agent<R> {
         self.hosts.count.get() > 0 && !self.life.has_joined.get()
     }
 
-    /// Has requests of keys wait until the hosts are asked, if none has answered yet. The caller holds `moving`.
-    pub fn await_hosts(&self) {
+    /// Has the node come back. Requests of keys then wait until the hosts are asked, if none has answered yet. Who calls this holds `moving`.
+    ///
+    /// # Errors
+    ///
+    /// Nothing has changed then.
+    ///
+    /// - `ForeignPass`: the pass has another node's name.
+    /// - `PassSpent`: the pass has made all its calls.
+    /// - `NotLeft`: the node has not left.
+    /// - `Exhausted`: its incarnation is the greatest.
+    /// - `Memory`: out of memory.
+    pub fn come_back(&self, caller: &mut Caller) -> Result<Change, ClusterError>
+        ensures node { caller.new.node ≡ caller.old.node }
+        ensures did { Does caller.old.node (Tries call.Rejoin reply.Rejoin) result caller.old.pass caller.new.pass }
+    {
+        let was_starting = self.life.is_starting.get();
         self.life.is_starting.set(self.awaits_hosts());
+        let back = caller.rejoin(&self.rt);
+        if back.is_ok() {
+            self.life.set_back();
+        } else {
+            self.life.is_starting.set(was_starting);
+        }
+        back
     }
 
     /// Returns the counts.
@@ -222,6 +249,14 @@ impl<R: Host> Agent<R> {
     pub fn end_worker(&self) {
         self.workers.subtract(1);
         if self.workers.get() == 0 {
+            self.life.wake.unpark();
+        }
+    }
+
+    /// Counts a request of another node as ended. The last one wakes the thread that waits for this.
+    pub fn end_forwarded(&self) {
+        self.forwarded.subtract(1);
+        if self.forwarded.get() == 0 {
             self.life.wake.unpark();
         }
     }

@@ -25,20 +25,20 @@ pub struct Lifecycle {
     pub is_stopping: Flag,
     /// Whether a thread needed a pass and none was left.
     pub is_spent: Flag,
-    /// The parker that is unparked when the agent is to end, and when the last worker that answers HTTP has ended.
+    /// The parker that is unparked when the agent is to end, when the last worker that answers HTTP has ended, and when no request of another node is left.
     pub wake: Parker,
     /// The parker that is unparked when the last rounds have spread that the node left.
     pub spread: Parker,
 }
 
 impl Lifecycle {
-    /// Makes the state of an agent that starts with hosts, or with none, and whose node leaves after these milliseconds without its service; 0 if it never does.
+    /// Makes the state of an agent that starts with hosts, or with none, and whose node leaves after these seconds without its service; 0 if it never does.
     pub fn new(has_hosts: bool, leave_after: u64) -> Lifecycle {
         Lifecycle {
             is_starting: Flag::new(has_hosts),
             has_joined: Flag::new(!has_hosts),
             has_left: Flag::new(false),
-            moving: Mutex::new(Watch::new(leave_after)),
+            moving: Mutex::new(Watch::new(leave_after.saturating_mul(1_000))),
             is_service_up: Flag::new(true),
             last_round: Count::new(),
             has_moved: Flag::new(false),
@@ -49,13 +49,13 @@ impl Lifecycle {
         }
     }
 
-    /// Notes that the node has left. The caller holds `moving`.
+    /// Notes that the node has left. Who calls this holds `moving`.
     pub fn set_left(&self) {
         self.has_left.set(true);
         self.has_moved.set(true);
     }
 
-    /// Notes that the node is back. The caller holds `moving`.
+    /// Notes that the node is back. Who calls this holds `moving`.
     pub fn set_back(&self) {
         self.has_left.set(false);
         self.has_moved.set(true);

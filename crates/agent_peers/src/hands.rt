@@ -18,9 +18,13 @@ use std::net::TcpStream;
 use std::sync::{Arc, Wait};
 use std::thread;
 use std::time::Duration;
+use transport::Deadline;
 
 /// The milliseconds for which the next request of a connection is awaited, 200 more than the other node uses it.
 const MAX_IDLE: u64 = 250;
+
+/// The most milliseconds for which the end waits until no request of another node is left: as many as the application has for one, and a margin.
+const MAX_ENDING: u64 = 4_500;
 
 /// The application, which has for each request what is left of the time from a moment on.
 #[derive(Drop)]
@@ -206,6 +210,7 @@ fn serve_requests<R: Host>(
         if millis_left(agent, job.since) > 0 && !has_hung_up(&job.stream) {
             serve_connection(agent, alloc, &mut caller, &mut link, &jobs, job);
         }
+        agent.end_forwarded();
     }
 }
 
@@ -230,4 +235,20 @@ pub fn start_hands<R: System>(
         let _thread = started.map_err(|_| AgentError::NoThread)?;
     }
     Ok(())
+}
+
+/// Waits until no request of another node is left, but 4.5 seconds at most.
+pub fn end_hands<R: System>(rt: &R, agent: &Agent<R>) {
+    let Ok(deadline) = Deadline::after(rt, Duration::from_millis(MAX_ENDING)) else {
+        return;
+    };
+    for _ in rt.forever() {
+        let Ok(left) = deadline.left() else {
+            return;
+        };
+        if agent.forwarded.get() == 0 {
+            return;
+        }
+        agent.life.wake.park_timeout(rt, left);
+    }
 }

@@ -102,6 +102,15 @@ fn note_alone<R: Host>(agent: &Agent<R>) {
     }
 }
 
+/// Notes that the hosts were asked, and whether one has answered or is held as serving: requests of keys are answered from then on.
+fn end_start<R: Host>(agent: &Agent<R>, is_met: bool) {
+    let _moving = agent.life.moving.lock(&agent.rt);
+    if is_met {
+        agent.life.has_joined.set(true);
+    }
+    agent.life.is_starting.set(false);
+}
+
 /// Sends a Join to one host after the other, again and again until one has answered, or the agent is to end. Hosts that come later are asked in place of
 /// these as soon as the host that is asked has answered or its time is up. Once one has answered it is healing that asks them.
 fn join_hosts<R: Host>(
@@ -124,11 +133,11 @@ fn join_hosts<R: Host>(
         let mut link = NotedLink::within(agent, wait);
         let asked = join_by(agent, alloc, &mut caller, &mut link, hosts.as_slice());
         match asked {
-            Asked::Met => agent.life.has_joined.set(true),
+            Asked::Met => {}
             Asked::Changed if !agent.life.is_stopping.get() => continue,
             Asked::Changed | Asked::Silent => note_alone(agent),
         }
-        agent.life.is_starting.set(false);
+        end_start(agent, matches!(asked, Asked::Met));
         if matches!(asked, Asked::Met) || agent.life.is_stopping.get() {
             return;
         }

@@ -154,7 +154,12 @@ pub fn serve_job<R: Host>(
     let Some(job) = request_of(agent, alloc, caller, link, job) else {
         return;
     };
-    if let Err(TrySendError::Full(job)) = hands.try_send(&agent.rt, job) {
+    agent.forwarded.add(1);
+    let Err(refused) = hands.try_send(&agent.rt, job) else {
+        return;
+    };
+    agent.end_forwarded();
+    if let TrySendError::Full(job) = refused {
         answer(agent, alloc, caller, link, &mut &Overloaded, job);
     }
 }

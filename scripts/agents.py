@@ -28,6 +28,8 @@ class Agent:
     """An agent with an application, whose port is this much above the node's."""
 
     above = 2 * STEP
+    # a program that starts the agent, and its words
+    under = ()
 
     def __init__(self, program, port, hosts, app=("python3", str(ROOT / "examples" / "app.py")), log=None, more=()):
         self.program, self.port, self.hosts, self.more = program, port, hosts, more
@@ -42,7 +44,7 @@ class Agent:
 
     def start(self):
         self.process = subprocess.Popen(
-            [self.program, "agent", *self.more, "--http", self.http, "--app", self.app, self.own, *map(address, self.hosts)],
+            [*self.under, self.program, "agent", *self.more, "--http", self.http, "--app", self.app, self.own, *map(address, self.hosts)],
             stdout=subprocess.DEVNULL, stderr=self.log)
 
     def ask(self, method, path, body=None):

@@ -226,10 +226,11 @@ class Knockers(Beside):
             self.longest = max(self.longest, time.monotonic() - begun)
 
 
-def deaf(port, sent):
-    """A connection over which this was sent, and that takes 2 KiB of the answer."""
+def deaf(port, sent, segment=0):
+    """A connection over which this was sent, and that takes 2 KiB of the answer, in segments of at most `segment` bytes; 0: those of the system."""
     stream = socket.socket()
     stream.setsockopt(socket.SOL_SOCKET, socket.SO_RCVBUF, 2_048)
+    stream.setsockopt(socket.IPPROTO_TCP, socket.TCP_MAXSEG, segment)
     stream.settimeout(10)
     stream.connect(("127.0.0.1", port))
     stream.setblocking(False)
@@ -345,21 +346,29 @@ def pinged(port):
     return time.monotonic() - begun
 
 
-def check_pings(port, seconds, held_now):
-    """For so long nine of ten pings are answered within 50 milliseconds, and each within 400, while the port has many connections that say nothing or
-    too little. Each of these is closed in time, and none is answered. `held_now` gives how many the node holds."""
-    knockers, end, spent, most = Knockers(port), time.monotonic() + seconds, [], 0
+def ping_beside(others, port, seconds, held_now):
+    """For so long nine of ten pings are answered within 50 milliseconds, and each within 400, while others work, which end then. Gives how many connections
+    the node holds at most; `held_now` gives how many it holds."""
+    end, spent, most = time.monotonic() + seconds, [], 0
     try:
         while time.monotonic() < end:
             spent.append(pinged(port))
             most = max(most, held_now())
             time.sleep(0.05)
     finally:
-        knockers.end()
+        others.end()
     usual, longest = sorted(spent)[len(spent) * 9 // 10], max(spent)
     print(f"{len(spent)} pings beside {most} connections: nine of ten within {usual:.3f} s, the longest {longest:.3f} s", flush=True)
+    expect(not is_late(usual, 0.05) and not is_late(longest, LIMIT), "pings wait for others")
+    return most
+
+
+def check_pings(port, seconds, held_now):
+    """Pings are answered in time, while the port has many connections that say nothing or too little. Each of these is closed in time, and none is
+    answered. `held_now` gives how many the node holds."""
+    knockers = Knockers(port)
+    most = ping_beside(knockers, port, seconds, held_now)
     expect(most > DRIPPING / 2, f"{most} connections at most are held")
-    expect(not is_late(usual, 0.05) and not is_late(longest, LIMIT), "pings wait for those who say nothing")
     print(f"a connection that drips is closed within {knockers.longest:.2f} s", flush=True)
     expect(not is_late(knockers.longest, 2), "a connection that drips is not closed in time")
     for stream in knockers.streams:

@@ -35,9 +35,11 @@ use Rattle.line_service.specs.Answering.{line_text}
 use Rattle.line_service.specs.declared.inputs.Input.TheVariants as input
 use Rattle.agent_core.specs.declared.refusals.Refusal.{Refusal}
 use Rattle.agent_core.specs.declared.refusals.Refusal.TheVariants as refused
-use Rattle.agent_peers.specs.Serving.{AsksFor, IsAnsweredHere, IsServed, RespondsAsking, asks, is_forward}
+use Rattle.kept_links.specs.Exchanges.{is_forward}
+use Rattle.agent_peers.specs.Serving.{AsksFor, IsAnsweredHere, IsServed, RespondsAsking, asks}
 use Rattle.agent_api.specs.Asking.{notes_asking}
-use Rattle.agent_node.specs.Calling.{Calling, HasMade, hash_of}
+use Rattle.hash_ring.specs.Points.{hash_of}
+use Rattle.agent_node.specs.Calling.{Calling, HasMade}
 use Rattle.agent.specs.Journeys.{Asked, AsksOne, AsksOneAtMost, ClientsAreTold, EndsMeet, ForwardsAskOne, IsAskedOnce, IsDelivered, IsGossip, IsTold, IsTurnedAway, MakesGossip, PassesOnAlone, RequestsAskOne, SaysBusy, TellsOf, askings, busy_text, goes_on, travels, unasked}
 use Rattle.agent_api.specs.Onces.{Noted, is_unsure, notes_send, unnoted, was_made}
 use Rattle.agent_api.specs.Ending.{EndsOnce, undone_send}

@@ -1,3 +1,5 @@
 pub mod Journeys
+pub mod Moving
 pub mod Owning
+pub mod Telling
 pub mod Written

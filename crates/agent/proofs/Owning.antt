@@ -3,7 +3,7 @@ use Rattle.std.proofs.Common.{◌≡◌, ◌≢◌, ◌∙◌, ℕ, ◌<◌, tru
 use Rattle.std.specs.Prelude.{Contains}
 use Rattle.std.proofs.lemmas.List.Elements.{Contains-append_left}
 use Rattle.change_core.specs.declared.addresses.Address.{Address}
-use Rattle.hash_ring.specs.Points.{owner}
+use Rattle.hash_ring.specs.Points.{owner, hash_number, hash_of}
 use Rattle.hash_ring.specs.declared.hash.Sha256Hash.{Sha256Hash}
 use Rattle.hash_ring.specs.declared.servers.Server.{Server}
 use Rattle.hash_ring.proofs.Disagreement.{owners_differ}
@@ -23,7 +23,6 @@ use Rattle.line_service.specs.declared.inputs.Input.TheVariants as input
 use Rattle.agent_peers.specs.Serving.{AsksFor, asks}
 use Rattle.agent_api.specs.Asking.{notes_asking}
 use Rattle.agent_node.specs.Noting.{notes_call}
-use Rattle.agent_node.specs.Calling.{hash_number, hash_of}
 use Rattle.agent_api.specs.Onces.{Noted, notes_send, unnoted}
 use Rattle.agent.specs.Owning.{AskersDiffer, AskersOwn, HasAsked, LooksSo, OneAsks}
 

@@ -27,10 +27,12 @@ use Rattle.agent_core.specs.Refusals.{line_of, status_of}
 use Rattle.agent_core.specs.declared.refusals.Refusal.TheVariants as refusal
 use Rattle.agent_api.specs.Asking.{notes_asking}
 use Rattle.agent_http.specs.declared.replies.Reply.TheVariants as shown
-use Rattle.agent_node.specs.Calling.{Calling, HasMade, hash_of}
+use Rattle.hash_ring.specs.Points.{hash_of}
+use Rattle.agent_node.specs.Calling.{Calling, HasMade}
 use Rattle.agent_api.specs.Onces.{Noted, unnoted, was_made}
 use Rattle.agent_api.specs.Performing.{Outcome, SettledBy, ending_of}
-use Rattle.agent_peers.specs.Serving.{IsServed, RespondsAsking, is_forward}
+use Rattle.kept_links.specs.Exchanges.{is_forward}
+use Rattle.agent_peers.specs.Serving.{IsServed, RespondsAsking}
 
 -- the text of the Reply of an agent that has no place for a request
 abbrev pub busy_text : List ℕ

@@ -4,7 +4,7 @@ use Rattle.std.specs.Option.{option_cmp}
 use Rattle.std.specs.Ordering.{nat_cmp}
 use Rattle.std.specs.declared.cmp.Ordering.TheVariants.{Less}
 use Rattle.change_core.specs.declared.addresses.Address.{Address}
-use Rattle.hash_ring.specs.Points.{owner}
+use Rattle.hash_ring.specs.Points.{owner, hash_number, hash_of}
 use Rattle.hash_ring.specs.Servers.{weight_of}
 use Rattle.hash_ring.specs.declared.hash.Sha256Hash.{Sha256Hash}
 use Rattle.hash_ring.specs.declared.servers.Server.{Server}
@@ -17,7 +17,6 @@ use Rattle.peer_core.specs.Handling.{Handled}
 use Rattle.peer_core.specs.declared.errors.ClusterError.{ClusterError}
 use Rattle.line_service.specs.declared.inputs.Input.TheVariants as input
 use Rattle.agent_peers.specs.Serving.{AsksFor, asks}
-use Rattle.agent_node.specs.Calling.{hash_number, hash_of}
 use Rattle.agent_api.specs.Onces.{Noted}
 use Rattle.agent_api.specs.Performing.{IsRequested}
 

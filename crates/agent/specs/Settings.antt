@@ -8,7 +8,7 @@ use Rattle.node_core.specs.Node.{Seen}
 use Rattle.node_core.specs.Parts.{seen_of}
 use Rattle.node_core.specs.World.{initial_node}
 use Rattle.node_core.specs.declared.configs.Config.{Config}
-use Rattle.agent_node.specs.Calling.{hash_of}
+use Rattle.hash_ring.specs.Points.{hash_of}
 use Rattle.agent.specs.declared.settings.Settings.{Settings}
 
 -- whether an address for HTTP, if there is one, is in 127.0.0.0/8

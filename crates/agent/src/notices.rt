@@ -1,4 +1,9 @@
 //! The notices by which the application is told of the ring, by a thread of their own: an application that is slow or down holds up no round.
+ghost use Rattle.std.specs.Prelude.{◌≡◌, Err, IfErr, None, Ok, not};
+ghost use Rattle.agent_core.specs.Warnings.{told};
+ghost use Rattle.agent_http.specs.Exchanges.{IsOfAnswer};
+ghost use Rattle.agent.specs.Notices.{Tells, TellsOnce};
+
 use agent_core::{Failure, Notice, Telling};
 use agent_http::read_answer;
 use agent_node::{Agent, AgentError, MAX_NOTICE_MILLIS};
@@ -53,7 +58,9 @@ fn exchange<S: Read + Write>(
     stream: &mut S,
     at: Address,
     text: &str,
-) -> Result<u16, Failure> {
+) -> Result<u16, Failure>
+    ensures { IfErr result IsOfAnswer }
+{
     let mut client = Client::new(Limits::default());
     let Ok(Some(output)) = request(alloc, &mut client, at, text) else {
         return Err(Failure::NoAnswer);
@@ -88,7 +95,9 @@ struct Notifier<'a, R> {
 
 impl<'a, R: Host> Notifier<'a, R> {
     /// Returns the status of the answer to the notice that is due.
-    fn tell(&self) -> Result<u16, Failure> {
+    fn tell(&self) -> Result<u16, Failure>
+        ensures { self.now.telling.next ≡ None → result ≡ Err Failure.NoAnswer }
+    {
         let agent = self.agent;
         let notice = self.telling.notice(self.alloc, agent.own, agent.replicas);
         let Ok(Some(text)) = notice else {
@@ -99,12 +108,15 @@ impl<'a, R: Host> Notifier<'a, R> {
     }
 
     /// Logs how a notice was answered, unless the log said so last.
-    fn log(&mut self, told: &Result<u16, Failure>, is_taken: bool, now: Moment) {
+    fn log(&mut self, answer: &Result<u16, Failure>, is_taken: bool, now: Moment)
+        ensures notice { self.new.notice ≡ told self.old.notice (not is_taken) now }
+        ensures telling { self.new.telling ≡ self.old.telling }
+    {
         if !self.notice.note(!is_taken, now) {
             return;
         }
         let (log, at) = (self.agent.log(), self.at);
-        match told {
+        match answer {
             Ok(_) if is_taken => info!(log; "the application at {at} is told of the ring again"),
             Ok(status) => {
                 warn!(log; "the application at {at} is not told of the ring: it answers {status}")
@@ -119,7 +131,10 @@ impl<'a, R: Host> Notifier<'a, R> {
     }
 
     /// Sends the notice that is due, and notes, counts and logs how it was answered.
-    fn make(&mut self) {
+    #[tactic(auto, using(crate::proofs::Telling::tells_failed, crate::proofs::Telling::tells_taken))]
+    fn make(&mut self)
+        ensures { TellsOnce self.old.telling self.new.telling }
+    {
         let told = self.tell();
         let teller = &self.agent.teller;
         let now = self.agent.now();
@@ -135,7 +150,10 @@ impl<'a, R: Host> Notifier<'a, R> {
     }
 
     /// Waits for a ring or for the time of the notice, or sends the notice if it is due; then notes the ring that came.
-    fn turn(&mut self) {
+    #[tactic(auto, using(crate::proofs::Telling::tells_none, crate::proofs::Telling::tells_sent))]
+    fn turn(&mut self)
+        ensures { Tells self.old.telling self.new.telling }
+    {
         let agent = self.agent;
         match self.telling.millis_left(agent.now()) {
             Some(0) => self.make(),
@@ -171,7 +189,9 @@ pub fn start_notices<R: System>(
     alloc: Global,
     agent: &Arc<Agent<R>, Global>,
     app: Option<Address>,
-) -> Result<(), AgentError> {
+) -> Result<(), AgentError>
+    ensures { app ≡ None → result ≡ Ok tt }
+{
     let Some(at) = app else {
         return Ok(());
     };

@@ -1,5 +1,5 @@
 //! The run of an agent, from its settings to its end.
-ghost use Rattle.std.specs.Prelude.{◌≡◌, ◌||◌, ◌/◌, ◌*◌, ◌^◌, ◌++◌, ◌∷◌, [], Err, IfErr, IfOk, IfSome, IsFalse, IsNone, IsSome, IsTrue, Ok, OnOk, is_some, min};
+ghost use Rattle.std.specs.Prelude.{◌≡◌, ◌≤◌, ◌<◌, ◌||◌, ◌*◌, ◌^◌, ◌++◌, ◌∷◌, [], Err, IfErr, IfOk, IfSome, IsFalse, IsNone, IsSome, IsTrue, Ok, OnOk, is_some};
 ghost use Rattle.std.specs.Duration.{as_nanos};
 ghost use Rattle.std.specs.Io.KnownBytes.{Appends};
 ghost use Rattle.change_core.specs.Address.{ip_of};
@@ -7,17 +7,19 @@ ghost use Rattle.transport.specs.Limits.{IsStandard};
 ghost use Rattle.line_service.specs.Timeouts.{AreStandardTimeouts};
 ghost use Rattle.locked_node.specs.Passes.{opening_of};
 ghost use Rattle.agent.specs.Settings.{IsNodeOf, is_local, seed_of};
+ghost use Rattle.agent_core.specs.Descriptors.{most_open};
 ghost use Rattle.agent.specs.Texts.{agent_text, serving_line};
 ghost use Rattle.wire_json.specs.Input.{AppendsPrefix};
 
 use crate::notices::start_notices;
 use crate::services::{await_service, start_watch};
 use crate::settings::Settings;
-use agent_api::{end_http, set_http_places, start_http};
+use agent_api::{end_http, start_http};
 use agent_application::{Application, ApplicationOptions};
+use agent_core::{Budget, MAX_NODES, MIN_DESCRIPTORS};
 use agent_http::Kept;
 use agent_node::{Agent, AgentError, Hosts, Lifecycle, Passes, Refused, Teller, renew_hosts};
-use agent_peers::{READERS, end_hands, set_port_places, start_joins, start_port, start_rounds};
+use agent_peers::{READERS, end_hands, start_joins, start_port, start_rounds};
 use agent_state::{
     Count, Counters, Logger, Notices, Process, System, Waiting, Watchers, share_log, start_log,
 };
@@ -29,7 +31,7 @@ use locked_node::LockedNode;
 use log::warn;
 use node_core::{Config, NodeError, NodeState};
 use reactor::{Lot, Places, max_descriptors};
-use std::alloc::{AllocError, Global};
+use std::alloc::Global;
 use std::fs::Files;
 use std::io::Write;
 use std::net::TcpListener;
@@ -44,9 +46,6 @@ pub const NODE_THREADS: u32 = READERS + 5;
 
 /// The number of passes for threads, each for 4,294,967,295 calls.
 const PASSES: u32 = 1_023;
-
-/// The most connections to other nodes that rest.
-const MAX_SPARES: u64 = 128;
 
 /// The milliseconds between two looks at what the process uses.
 const BETWEEN_LOOKS: u64 = 5_000;
@@ -120,30 +119,19 @@ fn passes_of<R: System>(rt: &R, alloc: Global, settings: &Settings) -> Result<Pa
     Ok(Passes::new(Arc::new(alloc, node)?, passes))
 }
 
-/// Returns the options of the application of the settings.
-fn options_of(settings: &Settings) -> ApplicationOptions
+/// Returns the options of the application of the settings, to which this many connections rest at most.
+fn options_of(settings: &Settings, connections: usize) -> ApplicationOptions
     ensures own { result.own ≡ settings.now.address }
     ensures at { result.at ≡ settings.now.app }
     ensures whole { result.any_request ≡ is_some settings.now.key_field }
+    ensures connections { result.connections ≡ connections }
 {
     ApplicationOptions {
         own: settings.address,
         at: settings.app,
         any_request: settings.key_field.is_some(),
+        connections,
     }
-}
-
-/// Makes the application of the settings.
-fn application_of<R: System>(
-    rt: &R,
-    alloc: Global,
-    log: &Logger<R>,
-    stopwatch: Stopwatch,
-    settings: &Settings,
-) -> Result<Application<R>, AllocError> {
-    let log = share_log(log)?;
-    let options = options_of(settings);
-    Ok(Application::new(*rt, alloc, log, stopwatch, options))
 }
 
 /// Returns the time limits of the settings: where any request is passed on, a line has more time, since it may be longer.
@@ -158,42 +146,71 @@ fn timeouts_of(settings: &Settings) -> Timeouts
     timeouts
 }
 
-/// Returns how many connections to other nodes rest at most where there are these descriptors: an eighth of them, and at most 128.
-fn spares_with(descriptors: u64) -> u64
-    ensures { result ≡ min (descriptors / 8) MAX_SPARES }
+/// Divides this number of descriptors among the connections of an agent with these settings.
+///
+/// # Errors
+///
+/// - `FewDescriptors`: there are fewer than 64.
+fn budget_of(descriptors: u64, settings: &Settings) -> Result<Budget, AgentError>
+    ensures fits { IfOk result (λ budget. most_open budget ≤ descriptors) }
+    ensures few { IfErr result (λ e. (descriptors < MIN_DESCRIPTORS) × (e ≡ AgentError.FewDescriptors descriptors)) }
 {
-    (descriptors / 8).min(MAX_SPARES)
+    if descriptors < MIN_DESCRIPTORS {
+        return Err(AgentError::FewDescriptors(descriptors));
+    }
+    let clients = settings.http.map_or(0, |_| settings.http_connections);
+    Ok(Budget::of(descriptors, clients, settings.hands))
 }
 
-/// Makes the state that the threads of an agent share.
+/// Logs of which connections there may be fewer than are wanted, for want of descriptors.
+fn warn_of_budget<R: System>(agent: &Agent<R>, settings: &Settings, descriptors: u64) {
+    let Budget {
+        clients,
+        nodes,
+        hands,
+        ..
+    } = agent.budget;
+    let wanted = settings.http_connections;
+    if settings.http.is_some() && clients < wanted as u64 {
+        warn!(agent.log(); "{clients} HTTP connections at a time, not {wanted}: there are {descriptors} descriptors (ulimit -n)");
+    }
+    if nodes < MAX_NODES {
+        warn!(agent.log(); "{nodes} connections at the node's port at a time, not {MAX_NODES}: there are {descriptors} descriptors (ulimit -n)");
+    }
+    if hands < settings.hands {
+        warn!(agent.log(); "{hands} hands, not {}: there are {descriptors} descriptors (ulimit -n)", settings.hands);
+    }
+}
+
+/// Makes the state that the threads of an agent with this budget share.
 fn agent_of<R: System + Files>(
     rt: &R,
     alloc: Global,
     settings: &Settings,
+    budget: Budget,
 ) -> Result<Arc<Agent<R>, Global>, AgentError> {
     let (own, given) = (settings.address, settings.hosts.as_slice());
     let hosts = Hosts::read(rt, alloc, own, given, &settings.hosts_file)?;
     let passes = passes_of(rt, alloc, settings)?;
     let stopwatch = Stopwatch::start(rt);
-    let spares = spares_with(max_descriptors().unwrap_or(u64::MAX));
     let log = start_log(rt, alloc, own, settings.level, settings.log_json)?;
-    let application = application_of(rt, alloc, &log, stopwatch, settings)?;
+    let options = options_of(settings, budget.kept as usize);
     let agent = Agent {
         rt: *rt,
+        application: Application::new(*rt, alloc, share_log(&log)?, stopwatch, options),
         log,
         own,
         cluster: settings.cluster.clone()?,
         replicas: settings.replicas,
         period: settings.period,
-        hands: settings.hands,
+        budget,
         stopwatch,
         timeouts: timeouts_of(settings),
-        application,
         key_field: settings.key_field.clone()?,
         passes: Mutex::new(passes),
         counters: Counters::new(),
         process: Process::start(rt),
-        spares: Pool::new(alloc, spares as usize),
+        spares: Pool::new(alloc, budget.spares as usize),
         waiting: Waiting::new(alloc)?,
         relaying: Count::new(),
         keeping: Count::new(),
@@ -289,10 +306,6 @@ fn start<R: System>(
     agent: &Arc<Agent<R>, Global>,
     settings: Settings,
 ) -> Result<Option<Arc<Lot<Kept>, Global>>, AgentError> {
-    if settings.http.is_some() {
-        set_http_places(&**agent, settings.http_connections)?;
-    }
-    set_port_places(&**agent);
     let listener = listen(rt, settings.bind)?;
     let http = match settings.http {
         Some(address) => Some(listen(rt, address)?),
@@ -331,7 +344,10 @@ fn set_up<R: System + Files>(
     if settings.address.ip() == 0 {
         return Err(AgentError::NoAddress);
     }
-    let agent = agent_of(rt, alloc, &settings)?;
+    let descriptors = max_descriptors().unwrap_or(u64::MAX);
+    let budget = budget_of(descriptors, &settings)?;
+    let agent = agent_of(rt, alloc, &settings, budget)?;
+    warn_of_budget(&agent, &settings, descriptors);
     if !settings.is_http_local() {
         warn!(agent.log(); "HTTP is answered beyond this machine, and nobody is asked who they are");
     }
@@ -374,6 +390,7 @@ fn serve<R: System + Files, W: Write>(
 ///
 /// - `NotLocal`: the address for HTTP is not in 127.0.0.0/8, and `http_any` is not set. This is checked first.
 /// - `NoAddress`: the node's own address is 0.0.0.0 with a port. This is checked second.
+/// - `FewDescriptors`: the system gives this process fewer than 64 descriptors. This is checked third.
 /// - `CannotRead`: the file of hosts can't be read, with the system's reason. Read again later, this only has the log say so.
 /// - `NotAFile`: the file of hosts is no regular file. This, too.
 /// - `BadHosts`: the file of hosts lists none. This, too.
@@ -381,7 +398,6 @@ fn serve<R: System + Files, W: Write>(
 /// - `BadConfig`: a field of the node's configuration is out of its range.
 /// - `CannotListen`: this address can't be listened at, that for other nodes or that for HTTP; with the system's reason.
 /// - `NoRandom`: the system gave no random numbers for the threads that answer HTTP.
-/// - `FewDescriptors`: it is to answer HTTP, and the system gives this process fewer than 64 descriptors.
 /// - `NoReactor`: the system lets no connections be watched.
 /// - `NoThread`: the system gave no thread.
 /// - `CannotWrite`: the writer failed.

@@ -1,5 +1,9 @@
 //! The thread that looks after the service, the application of an agent: the node is in the ring only while the service takes
 //! connections.
+ghost use Rattle.std.specs.Prelude.{◌≡◌, ◌⊎◌, IfErr, None, Ok, is_ok, not, ℕ};
+ghost use Rattle.agent_core.specs.Warnings.{told};
+ghost use Rattle.agent.specs.Services.{Leaves, Moves};
+
 use agent_core::{Move, Notice, Sight};
 use agent_node::{Agent, AgentError, Caller};
 use agent_state::{Host, System};
@@ -22,8 +26,11 @@ const BETWEEN_LOOKS_OUT: u64 = 200;
 /// # Errors
 ///
 /// - `Memory`: out of memory.
-pub fn await_service<R: Host>(agent: &Agent<R>, caller: &mut Caller) -> Result<(), AgentError> {
-    if agent.application.is_up() {
+pub fn await_service<R: Host>(agent: &Agent<R>, caller: &mut Caller) -> Result<(), AgentError>
+    ensures left { (caller.new ≡ caller.old) ⊎ Leaves (is_ok result) caller.old caller.new }
+    ensures error { IfErr result (λ e. e ≡ AgentError.Memory) }
+{
+    if matches!(agent.application.is_up(), Ok(true)) {
         return Ok(());
     }
     agent.life.is_service_up.set(false);
@@ -46,11 +53,16 @@ struct Lookout<'a, R> {
     /// What the log said last of the service, and of moves of the node that fail.
     service_notice: Notice,
     move_notice: Notice,
+    /// What the log said last of looks that were not possible.
+    look_notice: Notice,
 }
 
 impl<'a, R: Host> Lookout<'a, R> {
     /// Logs whether the service takes connections, unless the log said so last.
-    fn log_service(&mut self, takes: bool) {
+    fn log_service(&mut self, takes: bool)
+        ensures notice { (now : ℕ) × (self.new.service_notice ≡ told self.old.service_notice (not takes) now) }
+        ensures caller { self.new.caller ≡ self.old.caller }
+    {
         let (agent, at) = (self.agent, self.at);
         if !self.service_notice.note(!takes, agent.now()) {
             return;
@@ -63,7 +75,10 @@ impl<'a, R: Host> Lookout<'a, R> {
     }
 
     /// Makes a move of the node. The caller holds `moving`. Returns whether the node made it.
-    fn make(&mut self, step: Move) -> bool {
+    #[tactic(auto, using(crate::proofs::Moving::comes_back, crate::proofs::Moving::leaves, crate::proofs::Moving::stays))]
+    fn make(&mut self, step: Move) -> bool
+        ensures { Moves step result self.old.caller self.new.caller }
+    {
         let agent = self.agent;
         match step {
             Move::Stay => true,
@@ -85,10 +100,27 @@ impl<'a, R: Host> Lookout<'a, R> {
         }
     }
 
+    /// Returns whether the service takes a connection; None, which is logged unless the log said so last, if the system lets none be made.
+    fn takes(&mut self) -> Option<bool>
+        ensures { self.new.caller ≡ self.old.caller }
+    {
+        let agent = self.agent;
+        let seen = agent.application.is_up();
+        if self.look_notice.note(seen.is_err(), agent.now()) {
+            match seen {
+                Ok(_) => info!(agent.log(); "connections can be made again"),
+                Err(error) => warn!(agent.log(); "no connection can be made: {error}"),
+            }
+        }
+        seen.ok()
+    }
+
     /// Looks whether the service takes a connection, and has the node leave or come back for that.
     fn look(&mut self) {
         let agent = self.agent;
-        let takes = agent.application.is_up();
+        let Some(takes) = self.takes() else {
+            return;
+        };
         agent.life.is_service_up.set(takes);
         self.log_service(takes);
         let mut watch = agent.life.moving.lock(&agent.rt);
@@ -118,6 +150,7 @@ fn watch_service<R: Host>(agent: Arc<Agent<R>, Global>, caller: Caller, at: Addr
         at,
         service_notice: Notice::new(),
         move_notice: Notice::new(),
+        look_notice: Notice::new(),
     };
     for _ in agent.rt.forever() {
         lookout.look();
@@ -144,7 +177,9 @@ pub fn start_watch<R: System>(
     rt: &R,
     agent: &Arc<Agent<R>, Global>,
     app: Option<Address>,
-) -> Result<(), AgentError> {
+) -> Result<(), AgentError>
+    ensures { app ≡ None → result ≡ Ok tt }
+{
     let Some(at) = app else {
         return Ok(());
     };

@@ -4,7 +4,7 @@ use Rattle.std.specs.List.{All}
 use Rattle.std.proofs.lemmas.Bool.{or_parts}
 use Rattle.std.proofs.lemmas.List.Elements.{All-tail}
 use Rattle.change_core.specs.declared.addresses.Address.{Address}
-use Rattle.hash_ring.specs.Points.{owner}
+use Rattle.hash_ring.specs.Points.{owner, hash_of}
 use Rattle.hash_ring.specs.declared.hash.Sha256Hash.{Sha256Hash}
 use Rattle.message_core.specs.Messages.{kind_of}
 use Rattle.message_core.specs.declared.kinds.Kind.TheVariants as kind
@@ -25,7 +25,6 @@ use Rattle.peer_core.specs.declared.errors.HandlerFault.{HandlerFault}
 use Rattle.peer_core.specs.declared.errors.HandlerFault.TheVariants as fault
 use Rattle.peer_core.specs.declared.errors.LinkError.{LinkError}
 use Rattle.peer_core.proofs.HandlingCounts.{requests_handled}
-use Rattle.agent_node.specs.Calling.{hash_of}
 use Rattle.agent_api.specs.Onces.{Noted, is_other, is_unsure, notes_send, unnoted, was_made}
 use Rattle.agent_api.specs.Ending.{AnswersAreDoneOnce, EndsAtOne, EndsOnce, ErrorsAreUndone, FailsUndone, IsUndone, OthersAreSure, RequestsEndOnce, undone_send}
 

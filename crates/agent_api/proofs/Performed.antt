@@ -1,5 +1,5 @@
 -- The calls of a thread, one after the other, and what comes of them.
-use Rattle.std.proofs.Common.{◌≡◌, ◌∙◌, ℕ, Bool, ⊎_elim, false, true, length, List, [], ◌∷◌, Option, slice_get, take, Result, Ok, Err, inl, inr, refl, subst, sym, true≢false}
+use Rattle.std.proofs.Common.{◌≡◌, ◌∙◌, ℕ, Bool, ⊎_elim, false, true, length, List, [], Option, Result, Ok, Err, inl, inr, refl, subst, sym, true≢false}
 use Rattle.std.specs.Prelude.{◌≢◌, ◌==◌, IfErr, IfOk}
 use Rattle.hash_ring.specs.declared.hash.Sha256Hash.{Sha256Hash}
 use Rattle.node_core.specs.Viewing.{Viewed}
@@ -55,17 +55,6 @@ pub made_crowded : (limit : Option ℕ) (own : ℕ) (found : Owners) (key : List
 made_crowded limit own found key request is_repeatable why old is =
     subst (λ (it : Refusal). HasMade (AsksIfPlaced limit own key request is_repeatable (Err it) (Ok found)) old old) (sym is)
     (made_none (AsksIfPlaced limit own key request is_repeatable (Err (crowded own found.0)) (Ok found)) old old refl (inl (refl, refl)))
-
--- the first two of the first two are the first two
-pub first_taken : (xs : List ℕ) → slice_get (take 2 xs) 0 ≡ slice_get xs 0
-first_taken [] = refl
-first_taken (x ∷ []) = refl
-first_taken (x ∷ y ∷ xs) = refl
-
-pub second_taken : (xs : List ℕ) → slice_get (take 2 xs) 1 ≡ slice_get xs 1
-second_taken [] = refl
-second_taken (x ∷ []) = refl
-second_taken (x ∷ y ∷ xs) = refl
 
 -- a text, or out of memory for it
 pub shows : (content : Kind) (text : List ℕ) (outcome : Outcome) → IfOk outcome (IsText content text) → IfErr outcome (λ e. e ≡ refusal.Memory) → Shows content text outcome

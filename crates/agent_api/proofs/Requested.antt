@@ -22,7 +22,8 @@ use Rattle.peer_core.proofs.Acts.{makes_as}
 use Rattle.peer_core.proofs.Requesting.{requested_as}
 use Rattle.agent_api.specs.Asking.{answerer, notes_asking, AnyTimes}
 use Rattle.agent_application.specs.Applications.{AnyHandling}
-use Rattle.agent_node.specs.Calling.{Calling, HasMade, hash_of}
+use Rattle.hash_ring.specs.Points.{hash_of}
+use Rattle.agent_node.specs.Calling.{Calling, HasMade}
 use Rattle.agent_api.specs.Onces.{Noted, notes_send, unnoted}
 use Rattle.agent_api.specs.Performing.{AsksOwner, IsRequested, Outcome, SettledBy, ending_of}
 use Rattle.agent_node.proofs.Made.{made_as, made_both}

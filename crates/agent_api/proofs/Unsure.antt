@@ -1,33 +1,18 @@
 -- A link over which a request is sent that may end early.
-use Rattle.std.proofs.Common.{◌≡◌, ◌≢◌, ◌-◌, ◌^◌, ◌↔◌, ℕ, Bool, true, false, Result, Ok, Err, refl, sym, ap, inr, ◌∙◌, subst, eq-eqb, ne_eqb, arith, true≢false}
-use Rattle.std.specs.Prelude.{◌&&◌, ◌||◌, ◌+◌, ◌%◌, not, is_err, Option, Some, None}
+use Rattle.std.proofs.Common.{◌≡◌, ◌≢◌, ◌-◌, ℕ, Bool, true, false, Result, Ok, Err, refl, sym, ap, inr, ◌∙◌, subst, eq-eqb, true≢false}
+use Rattle.std.specs.Prelude.{◌&&◌, ◌||◌, not, is_err, None}
 use Rattle.std.proofs.Math.Bool.{or-false}
 use Rattle.change_core.specs.declared.addresses.Address.{Address}
 use Rattle.transport.specs.Sockets.{Dialled}
-use Rattle.message_core.specs.Messages.{kind_of}
-use Rattle.message_core.specs.declared.kinds.Kind.TheVariants as kind
-use Rattle.message_core.specs.declared.messages.Content.{Content}
 use Rattle.message_core.specs.declared.messages.Content.TheVariants as content
 use Rattle.message_core.specs.declared.messages.Message.{Message}
 use Rattle.peer_core.specs.Forwarding.{IsFailure}
 use Rattle.peer_core.specs.declared.errors.LinkError.{LinkError}
 use Rattle.peer_core.specs.declared.errors.LinkError.TheVariants.{Memory, Spent}
 use Rattle.agent_node.specs.Noting.{source_of}
-use Rattle.agent_api.specs.Onces.{MayConnect, Noted, NotesDoubt, counted, ends_request, is_last, is_other, is_unsure, net_of, noted_by, sends_once, was_made}
+use Rattle.agent_api.specs.Onces.{MayConnect, Noted, NotesDoubt, ends_request, is_last, is_other, is_unsure, net_of, noted_by, sends_once, was_made}
 use Rattle.agent_api.specs.declared.onces.CountedNet.{CountedNet}
 use Rattle.agent_api.specs.declared.onces.OnceLink.{OnceLink}
-
--- the error by which a request ends says rightly that the link is not spent
-pub ends_unspent : (ended : Result Message LinkError) (n : ℕ) → n ≢ 2 ^ 64 - 1 → ended ≡ Err Memory → (ended ≡ Err Spent ↔ n ≡ 2 ^ 64 - 1)
-ends_unspent ended n more is = ((λ same. absurd (cc)), (λ last. absurd (more last)))
-
--- a count with one more differs, and one with none does not
-pub no_connection : {S : Type 0} (connection : Option S) (n : ℕ) → was_made n (counted connection n) ≡ false → connection ≡ None
-no_connection None n none = refl
-no_connection (Some stream) n none = absurd (true≢false (sym (ap not (ne_eqb n ((n + 1) % 2 ^ 64) (one_more n))) ∙ none))
-  where
-    one_more : (n : ℕ) → n ≢ (n + 1) % 2 ^ 64
-    one_more n same = omega arith
 
 -- a count does not differ from itself
 unmade : (n : ℕ) → was_made n n ≡ false
@@ -44,46 +29,6 @@ noted_unsent answer old new same sure failed never = (
   where
     still : was_made old.made new.made ≡ false
     still = subst (λ (n : ℕ). was_made old.made n ≡ false) (sym same) (unmade old.made)
-
--- where a request goes on that may not be performed twice, no node may have performed it
-goes_on : (unsure late : Bool) → is_last unsure false late ≡ false → unsure ≡ false
-goes_on false late on = refl
-goes_on true false on = absurd (true≢false on)
-goes_on true true on = absurd (true≢false on)
-
-not_last : (last said : Bool) → said ≡ true → (last && said) ≡ false → last ≡ false
-not_last false said is_said on = refl
-not_last true said is_said on = absurd (true≢false (sym is_said ∙ on))
-
-no_doubt_told : (told : Content) (was unsure late : Bool) → unsure ≡ (was || is_other told) → was ≡ false → (is_last unsure false late && is_other told) ≡ false
-    → kind_of told ≢ kind.Reply → unsure ≡ false
-no_doubt_told (content.Join news) was unsure late noted sure on other = goes_on unsure late (not_last (is_last unsure false late) true refl on)
-no_doubt_told (content.Ping news) was unsure late noted sure on other = goes_on unsure late (not_last (is_last unsure false late) true refl on)
-no_doubt_told (content.PingReq news target) was unsure late noted sure on other = goes_on unsure late (not_last (is_last unsure false late) true refl on)
-no_doubt_told (content.Forward keys body) was unsure late noted sure on other = goes_on unsure late (not_last (is_last unsure false late) true refl on)
-no_doubt_told (content.Joined news) was unsure late noted sure on other = goes_on unsure late (not_last (is_last unsure false late) true refl on)
-no_doubt_told (content.Ack news) was unsure late noted sure on other = goes_on unsure late (not_last (is_last unsure false late) true refl on)
-no_doubt_told (content.PingReqAck news target reached) was unsure late noted sure on other = goes_on unsure late (not_last (is_last unsure false late) true refl on)
-no_doubt_told (content.Reply body) was unsure late noted sure on other = absurd (other refl)
-no_doubt_told content.NotOwner was unsure late noted sure on other = noted ∙ ap (λ (b : Bool). b || false) sure
-no_doubt_told (content.Refused why) was unsure late noted sure on other = goes_on unsure late (not_last (is_last unsure false late) true refl on)
-
-no_doubt : (answer : Result Message LinkError) (was unsure late made : Bool) → unsure ≡ (was || is_unsure answer made) → was ≡ false
-    → ends_request answer unsure false late ≡ false → IsFailure answer → unsure ≡ false
-no_doubt (Ok message) was unsure late made noted sure on fails = no_doubt_told message.content was unsure late noted sure on fails
-no_doubt (Err e) was unsure late made noted sure on fails = goes_on unsure late on
-
--- an answer came, after which the request goes on
-pub noted_sent : (answer : Result Message LinkError) (old new : Noted) (is_repeatable late : Bool)
-    → new.is_unsure ≡ (old.is_unsure || is_unsure answer (was_made old.made new.made)) → (was_made old.made new.made ≡ false → is_err answer ≡ true)
-    → ends_request answer new.is_unsure is_repeatable late ≡ false → is_repeatable ≡ false → NotesDoubt answer old new
-noted_sent answer old new is_repeatable late noted comes on once = (
-  noted,
-  comes,
-  λ fails sure.
-      no_doubt answer old.is_unsure new.is_unsure late (was_made old.made new.made) noted sure
-      (subst (λ (b : Bool). ends_request answer new.is_unsure b late ≡ false) once on) fails,
-)
 
 and_right : (x y : Bool) → (x && y) ≡ true → y ≡ true
 and_right true y is = is

@@ -13,7 +13,7 @@ use Rattle.peer_core.specs.Resending.{Sending, SendsRequest}
 use Rattle.peer_core.specs.declared.errors.ClusterError.{ClusterError}
 use Rattle.peer_core.specs.declared.errors.ClusterError.TheVariants as error
 use Rattle.peer_core.specs.declared.errors.LinkError.{LinkError}
-use Rattle.agent_node.specs.Calling.{hash_of}
+use Rattle.hash_ring.specs.Points.{hash_of}
 use Rattle.agent_api.specs.Onces.{Noted, unnoted, was_made}
 
 -- no node performed a request by this answer: the node called does not own the keys, or none came and no connection was made

@@ -2,7 +2,7 @@
 use Rattle.std.specs.Prelude.{◌≡◌, ◌≢◌, ◌⊎◌, ◌||◌, ◌==◌, ℕ, Bool, true, false, cond, bytes_eq, map, string_bytes, List, [], ◌∷◌, ◌++◌, slice_get, take, codes, Option, Some, None, Result, Ok, Err}
 use Rattle.change_core.specs.Digest.{digest_digits}
 use Rattle.change_core.specs.declared.changes.Change.{Change}
-use Rattle.hash_ring.specs.Points.{owner, owners}
+use Rattle.hash_ring.specs.Points.{owner, owners, hash_number, hash_of}
 use Rattle.hash_ring.specs.declared.hash.Sha256Hash.{Sha256Hash}
 use Rattle.node_core.specs.Viewing.{Viewed}
 use Rattle.node_core.specs.declared.events.Event.TheVariants as call
@@ -30,7 +30,7 @@ use Rattle.agent_core.specs.declared.refusals.Refusal.{Refusal}
 use Rattle.agent_core.specs.declared.refusals.Refusal.TheVariants as refusal
 use Rattle.agent_api.specs.Asking.{answerer, notes_asking, AnyTimes}
 use Rattle.agent_application.specs.Applications.{AnyHandling}
-use Rattle.agent_node.specs.Calling.{Looks, hash_number, hash_of}
+use Rattle.agent_node.specs.Calling.{Looks}
 use Rattle.agent_node.specs.Digests.{digest_by, ring_digest}
 use Rattle.peer_core.specs.Links.{any_answer}
 use Rattle.agent_api.specs.Onces.{Noted, notes_send, unnoted}

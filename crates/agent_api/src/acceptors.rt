@@ -1,5 +1,4 @@
 //! HTTP from its start to its end: the thread that accepts connections and watches those that wait, and the workers.
-ghost use Rattle.std.specs.Prelude.{◌≡◌, ◌<◌, ◌-◌, ◌/◌, ℕ, IfErr, min};
 
 use crate::connections::MAX_IDLE;
 use crate::workers::serve_http;
@@ -8,8 +7,7 @@ use agent_http::Kept;
 use agent_node::{Agent, AgentError, unwatched};
 use agent_state::{Host, System};
 use crossbeam_channel::Receiver;
-use log::warn;
-use reactor::{Connection, Lot, Reactor, Timing, max_descriptors};
+use reactor::{Connection, Lot, Reactor, Timing};
 use std::alloc::Global;
 use std::hash::RandomState;
 use std::net::TcpListener;
@@ -23,12 +21,6 @@ const WORKERS: u32 = 256;
 
 /// The number of threads of an agent for HTTP: the workers, and the one that accepts connections and watches those that wait.
 pub const HTTP_THREADS: u32 = WORKERS + 1;
-
-/// The least number of descriptors with which an agent answers HTTP.
-const MIN_DESCRIPTORS: u64 = 64;
-
-/// The most descriptors that are left for what is no HTTP connection of a client: those to the application and to other nodes, and the like.
-const MAX_OTHERS: u64 = 1_024;
 
 /// The milliseconds for which a worker waits for the next bytes of a connection before it parks it.
 const PATIENCE: u64 = 50;
@@ -44,35 +36,6 @@ const MAX_LAST_WAIT: u64 = 10_000;
 
 /// The milliseconds between two looks for connections whose time is up, and for questions whose wait is over.
 const BETWEEN_SWEEPS: u64 = 1_000;
-
-/// Returns how many HTTP connections may be open at a time where this number is wanted and there are these descriptors: they take half of them,
-/// or all but 1,024 if that is more.
-fn places_with(descriptors: u64, wanted: u32) -> u64
-    ensures { result ≡ min (descriptors - min (descriptors / 2) MAX_OTHERS) wanted }
-{
-    let others = (descriptors / 2).min(MAX_OTHERS);
-    (descriptors - others).min(wanted as u64)
-}
-
-/// Sets how many HTTP connections may be open at a time, and logs it if that is fewer than are wanted.
-///
-/// # Errors
-///
-/// - `FewDescriptors`: the system gives this process fewer than 64 descriptors.
-pub fn set_http_places<R: Host>(agent: &Agent<R>, wanted: u32) -> Result<(), AgentError>
-    ensures { IfErr result (λ e. (descriptors : ℕ) × (descriptors < MIN_DESCRIPTORS) × (e ≡ AgentError.FewDescriptors descriptors)) }
-{
-    let descriptors = max_descriptors().unwrap_or(u64::MAX);
-    if descriptors < MIN_DESCRIPTORS {
-        return Err(AgentError::FewDescriptors(descriptors));
-    }
-    let places = places_with(descriptors, wanted);
-    if places < wanted as u64 {
-        warn!(agent.log(); "{places} HTTP connections at a time, not {wanted}: there are {descriptors} descriptors (ulimit -n)");
-    }
-    agent.http.set_limit(places as usize);
-    Ok(())
-}
 
 /// Starts a worker that answers HTTP.
 fn start_worker<R: System>(
@@ -153,7 +116,7 @@ fn watch<R: Host>(agent: Arc<Agent<R>, Global>, mut reactor: Reactor<Kept>) {
     answer_last(agent, &mut reactor);
 }
 
-/// Starts the workers, and the thread that accepts connections, as many as there are places. Returns the lot of those that wait.
+/// Starts the workers, and the thread that accepts connections, as many as the agent has places for. Returns the lot of those that wait.
 ///
 /// # Errors
 ///
@@ -175,6 +138,7 @@ pub fn start_http<R: System>(
         between_sweeps: BETWEEN_SWEEPS,
         hands_over_late: false,
     };
+    agent.http.set_limit(agent.budget.clients as usize);
     let places = Arc::try_clone(&agent.http)?;
     let (reactor, ready) = Reactor::new(rt, alloc, listener, places, timing).map_err(
         |error| unwatched(error),

@@ -14,7 +14,8 @@ ghost use Rattle.agent_core.specs.Passing.{sent_text};
 ghost use Rattle.agent_core.specs.declared.actions.Action.TheVariants as action;
 ghost use Rattle.agent_api.specs.Answers.{IsAnswered, PerformsBy, Settles, ShowsTo};
 ghost use Rattle.agent_api.specs.Asking.{answerer, AnyTimes};
-ghost use Rattle.agent_node.specs.Calling.{HasMade, hash_of};
+ghost use Rattle.hash_ring.specs.Points.{hash_of};
+ghost use Rattle.agent_node.specs.Calling.{HasMade};
 ghost use Rattle.peer_core.specs.Links.{any_answer};
 ghost use Rattle.agent_api.specs.Onces.{Noted, noted_by, sends_once};
 ghost use Rattle.agent_api.specs.Patience.{asks_patiently};
@@ -61,7 +62,20 @@ pub fn refusal_of(error: ClusterError) -> Refusal
         ClusterError::AlreadyLeft => Refusal::AlreadyLeft,
         ClusterError::NotLeft => Refusal::NotLeft,
         ClusterError::Exhausted => Refusal::Exhausted,
-        _ => Refusal::Spent,
+        ClusterError::ForeignPass
+        | ClusterError::PassSpent
+        // (no call that the API makes returns one of these)
+        | ClusterError::NoNode
+        | ClusterError::NoneJoined
+        | ClusterError::Diverged
+        | ClusterError::InFlight
+        | ClusterError::NotInFlight
+        | ClusterError::BadConfig(_)
+        | ClusterError::Full
+        | ClusterError::Busy
+        | ClusterError::Spent
+        | ClusterError::StaleProbe
+        | ClusterError::NotAsked => Refusal::Spent,
     }
 }
 
@@ -528,8 +542,11 @@ impl<'f, 'a, R: Host> Api<'f, 'a, R> {
             Phase::Left => Err(Refusal::HasLeft),
             Phase::Awaiting => Err(Refusal::ApplicationAwaited),
             Phase::Serving if self.agent.is_failing_to_accept() => Err(Refusal::CannotAccept),
-            Phase::Serving if !self.agent.application.is_up() => Err(Refusal::ApplicationDown),
-            Phase::Serving => Ok(Reply::Line("ok\n")),
+            Phase::Serving => match self.agent.application.is_up() {
+                Ok(true) => Ok(Reply::Line("ok\n")),
+                Ok(false) => Err(Refusal::ApplicationDown),
+                Err(_) => Err(Refusal::CannotAccept),
+            },
         }
     }
 
@@ -677,9 +694,11 @@ impl<'f, 'a, R: Host> Api<'f, 'a, R> {
         );
     }
 
-    /// Returns whether the connection is closed after the answer: the agent is to end.
+    /// Returns whether the connection is closed after the answer: the agent is to end, another client waits for its place, or the worker needs another
+    /// pass, which it takes between connections.
     fn closes(&self) -> bool {
-        self.agent.life.is_stopping.get()
+        let agent = self.agent;
+        agent.life.is_stopping.get() || agent.http.is_wanted() || self.caller.is_spent()
     }
 
     /// Returns the form of the answer to a request.

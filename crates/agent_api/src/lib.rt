@@ -11,5 +11,5 @@ mod patience;
 mod questions;
 mod workers;
 
-pub use acceptors::{HTTP_THREADS, end_http, set_http_places, start_http};
+pub use acceptors::{HTTP_THREADS, end_http, start_http};
 pub use onces::OnceLink;

@@ -6,7 +6,7 @@ ghost use Rattle.std.specs.Prelude.{[], ◌∷◌, IfSome, codes, map, List, ℕ
 ghost use Rattle.http1.specs.Head.{pairs};
 ghost use Rattle.agent_core.specs.Parts.{joined};
 ghost use Rattle.agent_core.specs.Passing.{answer_text, flat, named};
-ghost use Rattle.agent_application.specs.Applications.{body_passed, fault_of};
+ghost use Rattle.agent_application.specs.Applications.{body_passed, fault_of, refusal_of};
 
 use agent_core::{
     Failure, Field, MAX_BODY_BYTES, MAX_REQUEST_BYTES, MAX_STATUS, MIN_STATUS, PassedRequest,
@@ -21,9 +21,9 @@ use log::{info, warn};
 use message_core::{Keys, Text, WireError};
 use peer_core::{Handler, HandlerFault};
 use percent_encoding::{NON_ALPHANUMERIC, percent_encode};
+use reactor::{Arrived, is_short, look_at};
 use std::alloc::{AllocError, Global};
 use std::io;
-use std::io::ErrorKind;
 use std::net::TcpStream;
 use std::sync::{Mutex, MutexGuard, Wait};
 use std::time::{Duration, Instant};
@@ -35,19 +35,44 @@ const MAX_APPLICATION_MILLIS: u64 = 4_000;
 /// The most milliseconds in which the application has to accept a connection to be taken for up.
 const MAX_PROBE_MILLIS: u64 = 1_000;
 
-/// The most connections to the application that are kept between requests.
-const MAX_APPLICATION_CONNECTIONS: usize = 128;
-
 /// The milliseconds for which a connection is kept without a request: shorter than many servers keep theirs.
 const MAX_KEPT_MILLIS: u64 = 4_000;
 
 /// A connection to the application.
 #[derive(Drop)]
-struct Kept {
+struct Connection {
     client: Client,
     stream: TcpStream,
     /// The millisecond at which it was kept.
     since: u64,
+}
+
+/// Why a request to the application has no answer.
+#[derive(Clone, Copy)]
+enum Fault {
+    /// No connection was made, for this reason of the system.
+    NotConnected(io::Error),
+    /// The application, or the time limit, ended the request.
+    Failed(Failure),
+}
+
+impl Fault {
+    /// Returns the refusal of the request: as of one too many where this node's own descriptors or memory ran out.
+    fn refusal(&self) -> Refusal
+        ensures { result ≡ refusal_of self.now }
+    {
+        match self {
+            Fault::NotConnected(error) if is_short(error) => Refusal::Busy,
+            Fault::NotConnected(_) => Refusal::Unanswered(Failure::NotAccepted),
+            Fault::Failed(failure) => Refusal::Unanswered(*failure),
+        }
+    }
+}
+
+impl From<Failure> for Fault {
+    fn from(failure: Failure) -> Self {
+        Fault::Failed(failure)
+    }
 }
 
 /// Where the application of a node is, and what it is asked.
@@ -59,6 +84,8 @@ pub struct ApplicationOptions {
     pub at: Option<Address>,
     /// Whether any request is passed on: then the application is not asked twice for a POST.
     pub any_request: bool,
+    /// The most connections to the program that are kept between requests.
+    pub connections: usize,
 }
 
 /// The handler of requests: a program that answers them over HTTP or, if it has no address, an echo, whose answer is
@@ -78,7 +105,7 @@ pub struct Application<R> {
     /// What the log said last of the program.
     notices: Notices,
     /// The connections that are kept, the newest last.
-    kept: Mutex<Vec<Kept>>,
+    kept: Mutex<Vec<Connection>>,
 }
 
 /// Returns the text of a Reply for a refusal.
@@ -104,16 +131,15 @@ fn takes_json(field: &Header<'_>) -> bool {
     field.name == b"accept".as_slice() && names_json(field.value)
 }
 
-/// Returns the text of a Reply for a failure of a request: no error, so that the asking node does not try again.
-fn failed(alloc: Global, asked: &Asked<'_>, failure: Failure) -> Result<Text, HandlerFault>
-    ensures { asked.now.wanted ≡ Wanted.Kind → IfOk result (λ text. text ≡ packed (status_of (Refusal.Unanswered failure)) false (line_of (Refusal.Unanswered failure))) }
+/// Returns the text of a Reply for a request that is refused: no error, so that the asking node does not try again.
+fn refused_as(alloc: Global, asked: &Asked<'_>, refusal: &Refusal) -> Result<Text, HandlerFault>
+    ensures { asked.now.wanted ≡ Wanted.Kind → IfOk result (λ text. text ≡ packed (status_of refusal.now) false (line_of refusal.now)) }
 {
-    let refusal = Refusal::Unanswered(failure);
     match asked.wanted {
-        Wanted::Kind => refused(alloc, &refusal),
+        Wanted::Kind => refused(alloc, refusal),
         Wanted::All { .. } => {
             let is_json = asked.fields.iter().any(|field| takes_json(field));
-            refused_whole(alloc, &refusal, is_json).map_err(handler_fault)
+            refused_whole(alloc, refusal, is_json).map_err(handler_fault)
         }
     }
 }
@@ -128,11 +154,11 @@ fn handler_fault(error: WireError) -> HandlerFault
     }
 }
 
-/// Returns the failure of a request that a time limit or an error of the system ended.
-fn no_answer(_error: io::Error) -> Failure
-    ensures { result ≡ Failure.NoAnswer }
+/// Returns the fault of a request that a time limit or an error of the clock ended.
+fn no_answer(_error: io::Error) -> Fault
+    ensures { result ≡ Fault.Failed Failure.NoAnswer }
 {
-    Failure::NoAnswer
+    Fault::Failed(Failure::NoAnswer)
 }
 
 /// Returns the handler's error if memory ran out.
@@ -208,21 +234,6 @@ fn may_repeat(method: &[u8], fields: &[Field<'_>]) -> bool {
         || is_repeatable(str::from_utf8(method).unwrap_or(""))
 }
 
-/// Returns whether nothing has come over a connection, not even its end.
-fn is_quiet(stream: &TcpStream) -> bool {
-    if stream.set_nonblocking(true).is_err() {
-        return false;
-    }
-    let seen = stream.peek(&mut [0]);
-    if stream.set_nonblocking(false).is_err() {
-        return false;
-    }
-    match seen {
-        Ok(_) => false,
-        Err(error) => error.kind() == ErrorKind::WouldBlock,
-    }
-}
-
 impl<R: Host> Application<R> {
     /// Makes the application with these options, which has been asked nothing.
     pub fn new(
@@ -248,7 +259,7 @@ impl<R: Host> Application<R> {
     }
 
     /// Locks the connections that are kept, those that were kept for too long excepted, which are closed.
-    fn lock_kept(&self, now: u64) -> MutexGuard<'_, Vec<Kept>> {
+    fn lock_kept(&self, now: u64) -> MutexGuard<'_, Vec<Connection>> {
         let mut kept = self.kept.lock(&self.rt);
         kept.retain(|it| now < it.since.saturating_add(MAX_KEPT_MILLIS));
         kept
@@ -263,39 +274,42 @@ impl<R: Host> Application<R> {
         self.stopwatch.moment(&self.rt).number()
     }
 
-    fn take_kept(&self) -> Option<Kept> {
+    fn take_kept(&self) -> Option<Connection> {
         self.lock_kept(self.now()).pop()
     }
 
-    /// Returns a kept connection over which nothing has come, if there is one: as far as this side knows its application has not
+    /// Returns a kept connection over which nothing has come, not even its end, if there is one: as far as this side knows its application has not
     /// closed it, and has sent nothing that would be taken for the answer to the next request.
-    fn take_quiet(&self) -> Option<Kept> {
-        for _ in 0..=MAX_APPLICATION_CONNECTIONS {
+    fn take_quiet(&self) -> Option<Connection> {
+        for _ in 0..self.options.connections {
             let kept = self.take_kept()?;
-            if is_quiet(&kept.stream) {
+            if look_at(&kept.stream) == Arrived::Nothing {
                 return Some(kept);
             }
         }
         None
     }
 
-    /// Keeps a connection for another request, if it can have one and fewer than 128 are kept. Out of memory drops it.
-    fn keep(&self, mut connection: Kept) {
-        if !connection.client.is_idle() {
+    /// Keeps a connection for another request, if it can have one and fewer are kept than may be. Out of memory drops it.
+    fn keep(&self, client: Client, stream: TcpStream) {
+        if !client.is_idle() {
             return;
         }
-        let now = self.now();
-        connection.since = now;
-        let mut kept = self.lock_kept(now);
-        if kept.len() < MAX_APPLICATION_CONNECTIONS {
-            let _kept = kept.push(connection);
+        let since = self.now();
+        let mut kept = self.lock_kept(since);
+        if kept.len() < self.options.connections {
+            let _kept = kept.push(Connection {
+                client,
+                stream,
+                since,
+            });
         }
     }
 
-    fn connect(&self, at: Address, limit: Duration) -> Option<Kept> {
-        let stream = TcpStream::connect_timeout(&self.rt, &socket_address(at), limit).ok()?;
+    fn connect(&self, at: Address, limit: Duration) -> io::Result<Connection> {
+        let stream = TcpStream::connect_timeout(&self.rt, &socket_address(at), limit)?;
         let _set = stream.set_nodelay(true);
-        Some(Kept {
+        Ok(Connection {
             client: Client::new(Limits::default()),
             stream,
             since: 0,
@@ -303,13 +317,19 @@ impl<R: Host> Application<R> {
     }
 
     /// Returns whether the application accepts a connection within a second; the echo always does. Closes what was kept for too long.
-    pub fn is_up(&self) -> bool {
+    ///
+    /// # Errors
+    ///
+    /// - The error of the system, whose descriptors or memory ran out: nothing is known of the application.
+    pub fn is_up(&self) -> io::Result<bool> {
         drop(self.lock_kept(self.now()));
-        match self.options.at {
-            Some(at) => self
-                .connect(at, Duration::from_millis(MAX_PROBE_MILLIS))
-                .is_some(),
-            None => true,
+        let Some(at) = self.options.at else {
+            return Ok(true);
+        };
+        match self.connect(at, Duration::from_millis(MAX_PROBE_MILLIS)) {
+            Ok(_) => Ok(true),
+            Err(error) if is_short(&error) => Err(error),
+            Err(_) => Ok(false),
         }
     }
 
@@ -317,36 +337,39 @@ impl<R: Host> Application<R> {
     fn exchange_over(
         &self,
         alloc: Global,
-        mut connection: Kept,
+        connection: Connection,
         limit: &Deadline<'_, R>,
         asked: &Asked<'_>,
-    ) -> Result<Answer, Failure> {
-        // (a second handle of the socket, since the stream with its deadline is dropped)
-        let stream = connection.stream.try_clone().map_err(no_answer)?;
+    ) -> Result<Answer, Fault> {
+        let Connection {
+            mut client,
+            stream,
+            ..
+        } = connection;
         let left = limit.left().map_err(no_answer)?;
         let deadline = Deadline::after(&self.rt, left).map_err(no_answer)?;
         let mut stream = Timed::new(stream, deadline);
-        let answer = exchange(alloc, &mut connection.client, &mut stream, asked);
-        if answer.is_ok() {
-            self.keep(connection);
-        }
-        answer
+        let answer = exchange(alloc, &mut client, &mut stream, asked)?;
+        self.keep(client, stream.into_inner());
+        Ok(answer)
     }
 
     /// Returns the application's answer to a request within a limit. If the application hung up on a kept connection, a request
     /// that may be performed twice is sent again over a new one, since the application may have closed the kept one before. After
     /// any other failure it is not, since the application may be at work on it.
-    fn ask(&self, alloc: Global, asked: &Asked<'_>, limit: Duration) -> Result<Answer, Failure> {
+    fn ask(&self, alloc: Global, asked: &Asked<'_>, limit: Duration) -> Result<Answer, Fault> {
         let deadline = Deadline::after(&self.rt, limit).map_err(no_answer)?;
         if let Some(kept) = self.take_quiet() {
             match self.exchange_over(alloc, kept, &deadline, asked) {
-                Err(Failure::HungUp) if asked.is_repeatable => {}
+                Err(Fault::Failed(Failure::HungUp)) if asked.is_repeatable => {}
                 answer => return answer,
             }
         }
         let left = deadline.left().map_err(no_answer)?;
-        let connection = self.connect(asked.at, left).ok_or(Failure::NotAccepted)?;
-        self.exchange_over(alloc, connection, &deadline, asked)
+        match self.connect(asked.at, left) {
+            Ok(connection) => self.exchange_over(alloc, connection, &deadline, asked),
+            Err(error) => Err(Fault::NotConnected(error)),
+        }
     }
 
     /// Returns the application's answer to a request within a limit, and counts the time that it took.
@@ -355,7 +378,7 @@ impl<R: Host> Application<R> {
         alloc: Global,
         asked: &Asked<'_>,
         limit: Duration,
-    ) -> Result<Answer, Failure> {
+    ) -> Result<Answer, Fault> {
         let start = Instant::now(&self.rt).ok();
         let answer = self.ask(alloc, asked, limit);
         self.times.add_since(&self.rt, start);
@@ -376,22 +399,25 @@ impl<R: Host> Application<R> {
     }
 
     /// Counts a request without an answer that can be passed on, and logs it, unless the log said so last.
-    fn note_failure(&self, at: Address, failure: Failure) {
+    fn note_failure(&self, at: Address, fault: &Fault) {
         self.failures.add(1);
         if !self.note(at, true) {
             return;
         }
-        match failure {
-            Failure::NotAccepted => {
-                warn!(self.log; "the application at {at} accepts no connection")
+        match fault {
+            Fault::NotConnected(error) if is_short(error) => {
+                warn!(self.log; "no connection to the application at {at} could be made here: {error}")
             }
-            Failure::HungUp => {
+            Fault::NotConnected(error) => {
+                warn!(self.log; "the application at {at} accepts no connection: {error}")
+            }
+            Fault::Failed(Failure::HungUp) => {
                 warn!(self.log; "the application at {at} hung up before it answered")
             }
-            Failure::NoAnswer => { warn!(self.log; "the application at {at} gave no whole answer") }
-            Failure::BadAnswer => {
+            Fault::Failed(Failure::BadAnswer) => {
                 warn!(self.log; "the application at {at} gave an answer that can't be passed on")
             }
+            Fault::Failed(_) => { warn!(self.log; "the application at {at} gave no whole answer") }
         }
     }
 
@@ -412,13 +438,13 @@ impl<R: Host> Application<R> {
     }
 
     /// Notes whether a request had an answer that could be passed on.
-    fn note_result(&self, failure: Option<Failure>) {
+    fn note_result(&self, fault: Option<&Fault>) {
         let Some(at) = self.options.at else {
             return;
         };
-        match failure {
+        match fault {
             None => self.note_answer(at),
-            Some(failure) => self.note_failure(at, failure),
+            Some(fault) => self.note_failure(at, fault),
         }
     }
 }
@@ -488,7 +514,7 @@ impl<'a, R: Host> Limited<'a, R> {
             Some(_) => application.ask_timed(alloc, asked, Duration::from_millis(self.millis)),
             None => Ok(application.echo(alloc, asked).map_err(out_of_memory)?),
         };
-        let failure = match &answer {
+        let fault = match &answer {
             Ok(answer) => {
                 let text = match asked.wanted {
                     Wanted::Kind => packed(alloc, answer),
@@ -498,14 +524,14 @@ impl<'a, R: Host> Limited<'a, R> {
                     application.note_result(None);
                     return text;
                 }
-                Failure::BadAnswer
+                Fault::Failed(Failure::BadAnswer)
             }
-            Err(failure) => *failure,
+            Err(fault) => *fault,
         };
         if self.is_failure(application.now().saturating_sub(begun)) {
-            application.note_result(Some(failure));
+            application.note_result(Some(&fault));
         }
-        failed(alloc, asked, failure)
+        refused_as(alloc, asked, &fault.refusal())
     }
 
     /// Returns the answer to a POST of a body as text at this target, by a service at this host.

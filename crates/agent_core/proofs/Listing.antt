@@ -1,20 +1,15 @@
 -- The keys of things, one after the other.
-use Rattle.std.proofs.Common.{◌≡◌, ◌≢◌, ℕ, suc, ◌+◌, ◌<◌, ◌≤◌, true, false, Some, IsUtf8, subst, List, [], ◌∷◌, ◌++◌, length, get_or, take, drop, map, Result, Ok, Err, IfOk, IfErr, refl, sym, ap, ◌∙◌, add-one, append_assoc, append-nil, arith}
+use Rattle.std.proofs.Common.{◌≡◌, ◌≢◌, ℕ, suc, ◌+◌, ◌<◌, ◌≤◌, true, false, Some, IsUtf8, subst, List, [], ◌∷◌, ◌++◌, length, get_or, take, drop, map, Result, Ok, Err, IfOk, IfErr, refl, sym, ap, ◌∙◌, add-one, append_assoc, arith}
 use Rattle.std.proofs.Math.Seq.{drop-cons}
 use Rattle.std.proofs.lemmas.Bool.{false_from_ne_true, le-leb, lt-leb}
-use Rattle.std.proofs.lemmas.List.{length-append, length-take, map-append, take_all, take_more}
-use Rattle.std.proofs.lemmas.List.Elements.{filter-append}
+use Rattle.std.proofs.lemmas.List.{length-append, length-take, take_all}
 use Rattle.std.proofs.lemmas.Str.{IsUtf8-from_is_utf8, is_utf8-from_IsUtf8}
-use Rattle.std.specs.List.{filter}
 use Rattle.std.specs.Str.{is_utf8}
 use Rattle.std.specs.Str.Lines.{lines}
-use Rattle.change_core.specs.Status.{is_serving}
-use Rattle.change_core.specs.declared.changes.Change.{Change}
 use Rattle.serde_json.specs.Find.{as_array}
 use Rattle.serde_json.specs.Read.{read}
 use Rattle.agent_core.specs.declared.refusals.KeyFault.TheVariants.{NotUtf8}
 use Rattle.agent_core.specs.declared.refusals.Part.TheVariants.{Body}
-use Rattle.agent_core.specs.Texts.{on_ring, server_of}
 use Rattle.agent_core.specs.declared.refusals.Refusal.{Refusal}
 use Rattle.agent_core.specs.declared.refusals.Refusal.TheVariants.{BadKey, Malformed, ManyKeys, Memory}
 use Rattle.agent_core.specs.Requests.{bytes_at, element_at, few_keys, is_list, key_before, keys_from, keys_in, keys_of_data, keys_of_items, line_at, text_at}
@@ -26,10 +21,6 @@ use Rattle.agent_core.specs.Requests.{elements}
 abbrev pub keys_before : List (List ℕ) → Result (List (List ℕ)) Refusal → Result (List (List ℕ)) Refusal
 keys_before keys (Err e) = Err e
 keys_before keys (Ok more) = Ok (keys ++ more)
-
-pub none_before : (r : Result (List (List ℕ)) Refusal) → r ≡ keys_before [] r
-none_before (Err e) = refl
-none_before (Ok keys) = refl
 
 -- one more key stands before the others
 more_before : (keys : List (List ℕ)) (key : List ℕ) (r : Result (List (List ℕ)) Refusal) → keys_before keys (key_before (Ok key) r) ≡ keys_before (keys ++ key ∷ []) r
@@ -123,27 +114,3 @@ bytes_at-none place bytes h = rw (false_from_ne_true (is_utf8 bytes) (λ t. h (I
 pub keys_of_data-list : (text : List ℕ) (value : Data) (ds : List Data) → read text ≡ Some value → as_array value ≡ Some (items_of ds)
     → keys_of_data (read text) ≡ few_keys element_at ds
 keys_of_data-list text value ds is list = ap keys_of_data is ∙ ap keys_of_items list ∙ ap (few_keys element_at) (elements_of ds)
-
--- ---- members on the ring
-
-on_ring-append : (cs ds : List Change) → on_ring (cs ++ ds) ≡ on_ring cs ++ on_ring ds
-on_ring-append cs ds =
-    ap (map server_of) (filter-append (λ (c : Change). is_serving c.status) cs ds)
-    ∙ map-append server_of (filter (λ (c : Change). is_serving c.status) cs) (filter (λ (c : Change). is_serving c.status) ds)
-
--- the member at i, too
-on_ring-more : (cs : List Change) (i : ℕ) (c : Change) → i < length cs → c ≡ get_or cs i c → on_ring (take (i + 1) cs) ≡ on_ring (take i cs) ++ on_ring (c ∷ [])
-on_ring-more cs i c lt is =
-    ap on_ring (take_more cs i c lt ∙ ap (λ d. take i cs ++ d ∷ []) (sym is)) ∙ on_ring-append (take i cs) (c ∷ [])
-
--- it serves
-pub on_ring-serves : (cs : List Change) (i : ℕ) (c : Change) (xs : List Change) → i < length cs → c ≡ get_or cs i c → xs ≡ on_ring (take i cs) → is_serving c.status ≡ true
-    → xs ++ server_of c ∷ [] ≡ on_ring (take (i + 1) cs)
-on_ring-serves cs i c xs lt is so_far serves =
-    ap (λ ys. ys ++ server_of c ∷ []) so_far ∙ sym (on_ring-more cs i c lt is ∙ ap (λ ys. on_ring (take i cs) ++ ys) (rw serves refl))
-
--- it does not
-pub on_ring-rests : (cs : List Change) (i : ℕ) (c : Change) (xs : List Change) → i < length cs → c ≡ get_or cs i c → xs ≡ on_ring (take i cs) → is_serving c.status ≡ false
-    → xs ≡ on_ring (take (i + 1) cs)
-on_ring-rests cs i c xs lt is so_far rests =
-    so_far ∙ sym (on_ring-more cs i c lt is ∙ ap (λ ys. on_ring (take i cs) ++ ys) (rw rests refl) ∙ append-nil (on_ring (take i cs)))

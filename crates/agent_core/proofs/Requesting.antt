@@ -1,19 +1,16 @@
 -- The action that a request asks for, by the parts of the definition.
-use Rattle.std.proofs.Common.{◌≡◌, ◌≢◌, ℕ, ◌+◌, ◌^◌, ◌<◌, ◌≤◌, true, false, ◌&&◌, ltb, leb, List, [], ◌∷◌, ◌++◌, length, drop, get_or, Option, Some, None, Result, Ok, Err, IfOk, IfErr, MatchOption, is_some, IsUtf8, option_copied, codes, Bor, refl, sym, ap, ◌∙◌, ⊎_elim, arith}
-use Rattle.std.proofs.lemmas.Bool.{cases_Bool, cases_eq, eq-eqb, ne_eqb, lt-ltb, le-leb, le-ltb, ltb-true, leb-true, and_parts, false_from_ne_true, cond-true, cond-false}
+use Rattle.std.proofs.Common.{◌≡◌, ◌≢◌, ℕ, ◌+◌, ◌^◌, ◌<◌, ◌≤◌, true, ◌&&◌, ltb, leb, List, [], ◌∷◌, ◌++◌, length, drop, get_or, Option, Some, None, Result, Ok, Err, IfOk, IfErr, MatchOption, is_some, IsUtf8, option_copied, codes, Bor, refl, sym, ap, ◌∙◌, ⊎_elim, arith}
+use Rattle.std.proofs.lemmas.Bool.{cases_eq, eq-eqb, ne_eqb, lt-ltb, le-leb, le-ltb, ltb-true, leb-true, and_parts, false_from_ne_true, cond-false}
 use Rattle.std.proofs.lemmas.Str.{IsUtf8-from_is_utf8, is_utf8-from_IsUtf8}
 use Rattle.std.proofs.lemmas.Str.Parse.{IsNumeralModel, numerals_by_value, tells_all_ascii_digits, parse_plain}
-use Rattle.std.proofs.lemmas.Slice.Eq.{bytes_eq-Decides}
-use Rattle.std.specs.Str.{all_ascii_digits, is_utf8, bytes_eq}
+use Rattle.std.specs.Str.{all_ascii_digits, is_utf8}
 use Rattle.std.specs.Str.Parse.{digits_value, ParsesUnsigned}
 use Rattle.std.specs.Str.Pattern.{FindsTextPrefix}
-use Rattle.agent_core.specs.declared.verbs.Verb.{Verb}
-use Rattle.agent_core.specs.declared.verbs.Verb.TheVariants.{Get, Post}
 use Rattle.agent_core.specs.declared.actions.Action.{Action}
 use Rattle.agent_core.specs.declared.refusals.Part.TheVariants.{Key, Body}
 use Rattle.agent_core.specs.declared.refusals.Refusal.{Refusal}
-use Rattle.agent_core.specs.declared.refusals.Refusal.TheVariants.{Malformed, BadMethod, Memory}
-use Rattle.agent_core.specs.Requests.{after, asked, body_in, by, count_in, handled, key_in, key_of, named, number_of, open_at, plain, verb_name}
+use Rattle.agent_core.specs.declared.refusals.Refusal.TheVariants.{Malformed, Memory}
+use Rattle.agent_core.specs.Requests.{after, asked, body_in, key_of, number_of, open_at}
 
 -- ---- the rest of a text after a prefix
 
@@ -83,11 +80,6 @@ copied_body body (Ok text) short u h = rw (h, le-ltb 131072 (length body) short,
 own : IsNumeralModel (λ ds. all_ascii_digits ds ≡ true) (digits_value 10)
 own = numerals_by_value _ tells_all_ascii_digits
 
--- digits after a plus sign are not a number
-pub number_of-sign : (most : ℕ) (digits : List ℕ) → get_or digits 0 0 ≡ 43 → number_of most digits ≡ None
-number_of-sign most [] e = refl
-number_of-sign most (c ∷ cs) e = rw e refl
-
 -- the number that `parse` reads of digits without a sign
 pub number_of-parsed : (most : ℕ) (digits : List ℕ) (n : ℕ) → ParsesUnsigned {E = ℕ} 64 10 digits (Ok n) → get_or digits 0 0 ≢ 43 → 0 < n → n ≤ most
     → Some n ≡ number_of most digits
@@ -110,28 +102,6 @@ number_of-unread most digits fits h unsigned =
 
 -- ---- requests
 
-by-right : (method : List ℕ) (verb : Verb) (wanted : Result Action Refusal) → method ≡ verb_name verb → by method verb wanted ≡ wanted
-by-right method verb wanted e = cond-true _ _ _ ((bytes_eq-Decides method (verb_name verb)).1 e)
-
-by-wrong : (method : List ℕ) (verb : Verb) (wanted : Result Action Refusal) → method ≢ verb_name verb → by method verb wanted ≡ Err (BadMethod verb)
-by-wrong method verb wanted n = cond-false _ _ _ (false_from_ne_true _ (λ t. n ((bytes_eq-Decides method (verb_name verb)).0 t)))
-
-pub asked-key : (method path rest body : List ℕ) (query : Option (List ℕ)) → Some rest ≡ after (codes "/keys/") path → method ≡ verb_name Post
-    → asked method path query body ≡ handled (key_in rest) (body_in body)
-asked-key method path rest body query e m = rw (← e) (by-right method Post _ m)
-
-pub asked-key_method : (method path rest body : List ℕ) (query : Option (List ℕ)) → Some rest ≡ after (codes "/keys/") path → method ≢ verb_name Post
-    → asked method path query body ≡ Err (BadMethod Post)
-asked-key_method method path rest body query e m = rw (← e) (by-wrong method Post _ m)
-
-pub asked-owner : (method path rest body : List ℕ) (query : Option (List ℕ)) → None ≡ after (codes "/keys/") path → Some rest ≡ after (codes "/owner/") path → method ≡ verb_name Get
-    → asked method path query body ≡ named (key_in rest) (count_in query)
-asked-owner method path rest body query k e m = rw (← k, ← e) (by-right method Get _ m)
-
-pub asked-owner_method : (method path rest body : List ℕ) (query : Option (List ℕ)) → None ≡ after (codes "/keys/") path → Some rest ≡ after (codes "/owner/") path → method ≢ verb_name Get
-    → asked method path query body ≡ Err (BadMethod Get)
-asked-owner_method method path rest body query k e m = rw (← k, ← e) (by-wrong method Get _ m)
-
 pub asked-open : (method path body : List ℕ) (query : Option (List ℕ)) → None ≡ after (codes "/keys/") path → None ≡ after (codes "/owner/") path
     → asked method path query body ≡ open_at method path query body
 asked-open method path body query k e = rw (← k, ← e) refl
@@ -141,16 +111,3 @@ pub answered-open : (r asks x : Result Action Refusal) → asks ≡ x → IfOk r
     → IfOk r (λ action. asks ≡ Ok action) × IfErr r (λ e. e ≢ Memory → asks ≡ Err e)
 answered-open (Ok action) asks x e ok err = (e ∙ ok, tt)
 answered-open (Err refusal) asks x e ok err = (tt, λ n. e ∙ err n)
-
--- a result that is the action at a path without a key has its error
-pub answered-plain : (r x : Result Action Refusal) → x ≡ r → IfErr r (λ e. e ≢ Memory → x ≡ Err e)
-answered-plain (Ok action) x e = tt
-answered-plain (Err refusal) x e = λ _. e
-
--- at a path without a key the error is not out of memory
-pub plain-memory : (method : List ℕ) (place : Option (Verb × Action)) → plain method place ≢ Err Memory
-plain-memory method None e = cc
-plain-memory method (Some place) e = ⊎_elim
-    (λ (t : bytes_eq method (verb_name place.0) ≡ true). let q : Ok place.1 ≡ Err Memory = sym (cond-true _ _ _ t) ∙ e in cc)
-    (λ (t : bytes_eq method (verb_name place.0) ≡ false). let q : Err (BadMethod place.0) ≡ Err Memory = sym (cond-false _ _ _ t) ∙ e in cc)
-    (cases_Bool _)

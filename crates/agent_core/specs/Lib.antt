@@ -13,3 +13,4 @@ pub mod Shares
 pub mod Tombstones
 pub mod Warnings
 pub mod Hosts
+pub mod Descriptors

@@ -6,6 +6,7 @@
 mod actions;
 mod answers;
 mod counts;
+mod descriptors;
 mod gossip_metrics;
 mod host_lists;
 mod key_lists;
@@ -36,6 +37,7 @@ pub use counts::{
     BUCKETS, ChangeCounts, KeptCounts, LogCounts, PortCounts, ProcessCounts, RefusalCounts,
     StatusCounts, TimeCounts, WaitingCounts, bucket_of,
 };
+pub use descriptors::{Budget, MAX_NODES, MIN_DESCRIPTORS};
 pub use host_lists::{HostsFault, MAX_HOSTS, MAX_HOSTS_BYTES, hosts_in};
 pub use key_lists::{KeyList, MAX_LISTED};
 pub use levels::{LogLevel, level_line};

@@ -18,7 +18,7 @@ fn write_member(writer: &mut Writer, name: &str, text: &str) -> Result<(), Alloc
 }
 
 /// Returns a line of the log as JSON, without its newline, as
-/// `{"time":"2026-11-30T07:35:50.123Z","address":"10.0.0.1:7946","level":"INFO","target":"agent::hosts","message":".."}`: the time, if it is known,
+/// `{"time":"2026-11-30T07:35:50.123Z","address":"10.0.0.1:7946","level":"INFO","target":"agent_peers::hosts","message":".."}`: the time, if it is known,
 /// the node's address, the level, the part of the program, which is empty if none is named, and the message.
 ///
 /// # Errors

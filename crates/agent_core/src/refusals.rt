@@ -1,7 +1,7 @@
 //! The refusals of requests, and the status and the text of each.
 ghost use Rattle.std.specs.Prelude.{◌≡◌, ◌≤◌, ◌∷◌, ◌++◌, [], IfOk, string_bytes};
 ghost use Rattle.agent_core.specs.Refusals.{failure_text, fault_text, is_answer, join_text, json_of, line_of, message_of, part_text, sent, status_of, text_of, word_of};
-ghost use Rattle.agent_core.specs.declared.refusals.Refusal.TheVariants.{Busy as crowded, Memory as no_memory, Unanswered as unanswered};
+ghost use Rattle.agent_core.specs.declared.refusals.Refusal.TheVariants.{Busy as crowded, Malformed as malformed, Memory as no_memory, Unanswered as unanswered};
 
 use crate::verbs::Verb;
 use change_core::Address;
@@ -143,6 +143,27 @@ fn join_text(reason: Reason) -> &'static str
 }
 
 impl Part {
+    /// Returns the word of a refusal for this part.
+    fn word(self) -> &'static str
+        ensures { result.now ≡ word_of (malformed self) }
+    {
+        match self {
+            Part::Key => "bad-key",
+            Part::Count => "bad-count",
+            Part::Body => "bad-body",
+            Part::Keys => "bad-keys",
+            Part::NotMine => "bad-not-mine",
+            Part::After => "bad-after",
+            Part::Wait => "bad-wait",
+            Part::Level => "bad-level",
+            Part::OwnerQuery => "bad-owner-query",
+            Part::OwnersQuery => "bad-owners-query",
+            Part::RingQuery => "bad-ring-query",
+            Part::KeyField => "bad-key-field",
+            Part::WaitField => "bad-wait-field",
+        }
+    }
+
     /// Returns the text of a refusal for this part.
     fn text(self) -> &'static str
         ensures { result.now ≡ part_text self }
@@ -275,20 +296,8 @@ impl Refusal {
         ensures { result.now ≡ word_of self.now }
     {
         match self {
-            Refusal::Malformed(Part::Key) => "bad-key",
+            Refusal::Malformed(part) => part.word(),
             Refusal::BadKey { .. } => "bad-listed-key",
-            Refusal::Malformed(Part::Count) => "bad-count",
-            Refusal::Malformed(Part::Body) => "bad-body",
-            Refusal::Malformed(Part::Keys) => "bad-keys",
-            Refusal::Malformed(Part::NotMine) => "bad-not-mine",
-            Refusal::Malformed(Part::After) => "bad-after",
-            Refusal::Malformed(Part::Wait) => "bad-wait",
-            Refusal::Malformed(Part::Level) => "bad-level",
-            Refusal::Malformed(Part::OwnerQuery) => "bad-owner-query",
-            Refusal::Malformed(Part::OwnersQuery) => "bad-owners-query",
-            Refusal::Malformed(Part::RingQuery) => "bad-ring-query",
-            Refusal::Malformed(Part::KeyField) => "bad-key-field",
-            Refusal::Malformed(Part::WaitField) => "bad-wait-field",
             Refusal::CrossSite => "cross-site",
             Refusal::NotFound => "not-found",
             Refusal::BadMethod(_) => "bad-method",

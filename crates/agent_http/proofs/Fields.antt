@@ -18,10 +18,6 @@ one_more (f ∷ fields) name value =
     ap (λ z. part_of f.0 ++ (part_of f.1 ++ z)) (one_more fields name value)
     ∙ regrouped (part_of f.0) (part_of f.1) (joined (flat fields)) (part_of name) (part_of value)
 
--- no bytes are those of no fields
-pub no_fields : (bytes : List ℕ) → bytes ≡ [] → AreFields bytes
-no_fields bytes is = ([], is)
-
 -- the bytes of fields, and of one more
 pub more_fields : (old new name value : List ℕ) → AreFields old → new ≡ (old ++ part_of name) ++ part_of value → AreFields new
 more_fields old new name value are is =

@@ -1,10 +1,9 @@
 -- A thread of an agent as it calls the node.
-use Rattle.std.specs.Prelude.{◌≡◌, ◌⊎◌, ℕ, List, take, Ok, Err}
-use Rattle.std.specs.Int.{from_be_bytes, w64}
-use Rattle.sha2.specs.Sha256.{sha256}
+use Rattle.std.specs.Prelude.{◌≡◌, ◌≢◌, ◌⊎◌, List, Ok, Err}
 use Rattle.hash_ring.specs.declared.hash.Sha256Hash.{Sha256Hash}
 use Rattle.node_core.specs.Viewing.{Viewed}
 use Rattle.node_core.specs.declared.errors.NodeError.{NodeError}
+use Rattle.turn_lock.specs.Passes.{left_of}
 use Rattle.locked_node.specs.declared.node.LockedNode.{LockedNode}
 use Rattle.locked_node.specs.Passes.{NodePass}
 use Rattle.peer_core.specs.Acts.{OfActs, Just, Nothing, Makes, looked}
@@ -21,14 +20,6 @@ pub record Unused : Type 0 where
   pub node : LockedNode Sha256Hash
   pub passes : List (NodePass Sha256Hash)
 
--- the hash of bytes: the number that the first eight bytes of their SHA-256 write
-abbrev pub hash_number : List ℕ → ℕ
-hash_number bytes = from_be_bytes w64 (take 8 (sha256 bytes))
-
--- the hash of the node's ring
-abbrev pub hash_of : Sha256Hash → List ℕ → ℕ
-hash_of hash = hash_number
-
 -- the node gave a view, or its error; or the lock refused the call
 abbrev pub Looks : Part Sha256Hash (Viewed Sha256Hash)
 Looks (Ok view) acts = Just (looked (Ok view)) acts
@@ -38,3 +29,7 @@ Looks (Err e) acts = (Nothing acts × IsOfLock e) ⊎ ((n : NodeError) × Just (
 pub record HasMade (So : OfActs Sha256Hash) (old new : Calling) : Type 0 where
   pub node : new.node ≡ old.node
   pub makes : Makes old.node So old.pass new.pass
+
+-- the pass of a thread was replaced if it had made all its calls, if another was left; else it and the node are the same
+abbrev pub IsRenewed : Calling → Calling → Type 0
+IsRenewed old new = left_of old.pass ≢ 0 → new ≡ old

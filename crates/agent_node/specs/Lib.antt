@@ -5,3 +5,4 @@ pub mod Hosts
 pub mod Noting
 pub mod PeerLinks
 pub mod Rejections
+pub mod Tellings

@@ -1,6 +1,8 @@
 -- What a link and a handler note: which node answered last, and whether the application was asked.
-use Rattle.std.specs.Prelude.{◌≡◌, Bool, true, Option, Some, None, Result, Ok, Err}
+use Rattle.std.specs.Prelude.{◌≡◌, ◌+◌, ℕ, min, Bool, true, Option, Some, None, Result, Ok, Err}
 use Rattle.change_core.specs.declared.addresses.Address.{Address}
+use Rattle.message_core.specs.declared.messages.Content.{Content}
+use Rattle.message_core.specs.declared.messages.Content.TheVariants.{NotOwner}
 use Rattle.message_core.specs.declared.messages.Message.{Message}
 use Rattle.peer_core.specs.Handling.{Handled}
 use Rattle.peer_core.specs.Links.{Went}
@@ -11,6 +13,16 @@ use Rattle.agent_node.specs.declared.links.NotedHandler.{NotedHandler}
 abbrev pub source_of : Result Message LinkError → Option Address
 source_of (Ok message) = Some message.source
 source_of (Err error) = None
+
+-- how many requests in a row were answered by a NotOwner, after this number of them and one that was answered by this content
+abbrev pub disowned_by : ℕ → Content → ℕ
+disowned_by disowned NotOwner = min (disowned + 1) 4294967295
+disowned_by disowned other = 0
+
+-- the same after one with this answer, if it has one
+abbrev pub disowned_with : ℕ → Result Message LinkError → ℕ
+disowned_with disowned (Ok message) = disowned_by disowned message.content
+disowned_with disowned (Err error) = 0
 
 -- a call of a link notes the node that gave its answer
 abbrev pub notes_source : Went (Option Address)

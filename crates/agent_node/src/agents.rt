@@ -1,5 +1,6 @@
 //! An agent as all its threads see it: its node, its application, and the state that they share.
-ghost use Rattle.std.specs.Prelude.{◌≡◌, ◌≢◌, ◌*◌, ◌/◌, IfErr};
+ghost use Rattle.std.specs.Prelude.{◌≡◌, ◌≢◌, ◌≤◌, ◌*◌, ◌/◌, IfErr, is_err, ℕ};
+ghost use Rattle.agent_core.specs.Warnings.{told};
 ghost use Rattle.node_core.specs.declared.events.Event.TheVariants as call;
 ghost use Rattle.node_core.specs.declared.events.Reply.TheVariants as reply;
 ghost use Rattle.peer_core.specs.Parts.{Does, Tries};
@@ -12,7 +13,7 @@ use crate::lifecycles::Lifecycle;
 use crate::rejections::Refused;
 use crate::tellers::Teller;
 use agent_application::Application;
-use agent_core::{Counts, KeptCounts, Notice, PortCounts};
+use agent_core::{Budget, Counts, KeptCounts, Notice, PortCounts};
 use agent_state::{
     Count, Counters, Host, Logger, MAX_QUESTIONS, Notices, Process, Waiting, Watchers,
 };
@@ -54,8 +55,8 @@ pub struct Agent<R> {
     pub replicas: u32,
     /// The milliseconds between the beginnings of two rounds.
     pub period: u64,
-    /// The number of threads that have the application answer other nodes.
-    pub hands: u32,
+    /// The most connections of each kind, and how many threads have the application answer other nodes.
+    pub budget: Budget,
     pub stopwatch: Stopwatch,
     pub timeouts: Timeouts,
     pub application: Application<R>,
@@ -81,7 +82,7 @@ pub struct Agent<R> {
     pub serving: Count,
     /// The places of HTTP connections.
     pub http: Arc<Places, Global>,
-    /// The places of connections at the node's port that wait for their line.
+    /// The places of connections at the node's port that wait for the rest of their line, or to take the rest of their answer.
     pub port: Arc<Places, Global>,
     /// The questions about the ring that wait until it changes.
     pub watchers: Watchers,
@@ -114,7 +115,9 @@ impl<R: Host> Agent<R> {
     }
 
     /// Returns the log, which has lines written to standard error.
-    pub fn log(&self) -> &Logger<R> {
+    pub fn log(&self) -> &Logger<R>
+        ensures { result.now ≡ self.now.log }
+    {
         &self.log
     }
 
@@ -170,7 +173,11 @@ impl<R: Host> Agent<R> {
     }
 
     /// Returns the counts.
-    pub fn counts(&self) -> Counts {
+    pub fn counts(&self) -> Counts
+        ensures service { result.service_up ≤ 1 }
+        ensures hands { result.kept.max_hands ≡ self.now.budget.hands * 3 / 4 }
+        ensures questions { result.questions_max ≤ MAX_QUESTIONS }
+    {
         Counts {
             handled: self.application.handled.get(),
             application: self.application.times.counts(),
@@ -195,7 +202,9 @@ impl<R: Host> Agent<R> {
     }
 
     /// Logs that the system lets no connection of a kind be accepted, or does again, unless the log said so last.
-    pub fn note_accepting(&self, notice: &mut Notice, kind: &str, accepted: &io::Result<bool>) {
+    pub fn note_accepting(&self, notice: &mut Notice, kind: &str, accepted: &io::Result<bool>)
+        ensures { (now : ℕ) × (notice.new ≡ told notice.old (is_err accepted.now) now) }
+    {
         if !notice.note(accepted.is_err(), self.now()) {
             return;
         }
@@ -211,7 +220,9 @@ impl<R: Host> Agent<R> {
     }
 
     /// Returns the counts of the connections between nodes that are kept.
-    fn kept_counts(&self) -> KeptCounts {
+    fn kept_counts(&self) -> KeptCounts
+        ensures { result.max_hands ≡ self.now.budget.hands * 3 / 4 }
+    {
         KeptCounts {
             resting: self.spares.resting(&self.rt) as u64,
             max_resting: self.spares.most() as u64,
@@ -225,13 +236,15 @@ impl<R: Host> Agent<R> {
     /// Returns how many hands may wait for the next request of a connection at a time: three of four, so that the others answer what comes over
     /// new ones.
     pub fn max_keeping(&self) -> u64
-        ensures { result ≡ self.now.hands * 3 / 4 }
+        ensures { result ≡ self.now.budget.hands * 3 / 4 }
     {
-        u64::from(self.hands) * 3 / 4
+        u64::from(self.budget.hands) * 3 / 4
     }
 
     /// Returns how many questions about the ring may wait: 1,000, or as many as half of the HTTP connections that may be open.
-    pub fn max_questions(&self) -> u64 {
+    pub fn max_questions(&self) -> u64
+        ensures { result ≤ MAX_QUESTIONS }
+    {
         MAX_QUESTIONS.min(self.http.limit() as u64 / 2)
     }
 

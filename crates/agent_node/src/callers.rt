@@ -8,8 +8,9 @@ ghost use Rattle.node_core.specs.declared.events.Reply.TheVariants as reply;
 ghost use Rattle.peer_core.specs.Acts.{Makes};
 ghost use Rattle.peer_core.specs.Exchanges.{SendsByDraws, SendsTo, SendsToPinged};
 ghost use Rattle.peer_core.specs.Joining.{IsJoin};
-ghost use Rattle.peer_core.specs.Parts.{Calls, Does, Tries, allowed, let_in};
-ghost use Rattle.agent_node.specs.Calling.{Looks, hash_of};
+ghost use Rattle.peer_core.specs.Parts.{Calls, Does, Tries};
+ghost use Rattle.hash_ring.specs.Points.{hash_of};
+ghost use Rattle.agent_node.specs.Calling.{Looks};
 ghost use Rattle.line_service.specs.Answering.{IsSilent, Responds};
 ghost use Rattle.peer_core.specs.Correcting.{IsCorrectingRound};
 ghost use Rattle.peer_core.specs.Forwarding.{IsRequest};
@@ -26,13 +27,12 @@ use locked_node::{LockedNode, NodePass};
 use message_core::{Keys, Text};
 use node_core::{ChangeList, View};
 use peer_core::{
-    Clock, ClusterError, HandlerMut, Healing, Link, Member, Round, correcting_round, gossip_round,
-    handle_or_forward, heal, join,
+    Clock, ClusterError, HandlerMut, Healing, Link, Member, Round, allowed, correcting_round,
+    gossip_round, handle_or_forward, heal, join, let_in,
 };
 use std::alloc::Global;
 use std::marker::Model;
 use std::sync::{Arc, Wait};
-use turn_lock::LockError;
 
 /// The node of an agent.
 pub type Node = LockedNode<Sha256Hash>;
@@ -273,7 +273,7 @@ impl Caller {
         ensures node { self.new.node ≡ self.old.node }
         ensures did { Does self.old.node Looks result self.old.pass self.new.pass }
     {
-        answered(self.node.view(rt, &mut self.pass))
+        allowed(self.node.view(rt, &mut self.pass))
     }
 
     /// Returns the node's own entry, as a change.
@@ -338,7 +338,7 @@ impl Caller {
         ensures node { self.new.node ≡ self.old.node }
         ensures did { Does self.old.node (Tries call.Members reply.Members) result self.old.pass self.new.pass }
     {
-        answered(self.node.members(rt, &mut self.pass))
+        allowed(self.node.members(rt, &mut self.pass))
     }
 
     /// Returns the digest of the members.
@@ -354,7 +354,7 @@ impl Caller {
         ensures node { self.new.node ≡ self.old.node }
         ensures did { Does self.old.node (Tries call.Digest reply.Digest) result self.old.pass self.new.pass }
     {
-        answered(self.node.digest(rt, &mut self.pass))
+        allowed(self.node.digest(rt, &mut self.pass))
     }
 
     /// Leaves the cluster. Returns the node's new own entry, as a change.
@@ -371,7 +371,7 @@ impl Caller {
         ensures node { self.new.node ≡ self.old.node }
         ensures did { Does self.old.node (Tries call.Leave reply.Leave) result self.old.pass self.new.pass }
     {
-        answered(self.node.leave(rt, &mut self.pass))
+        allowed(self.node.leave(rt, &mut self.pass))
     }
 
     /// Comes back after leaving. Returns the node's new own entry, as a change.
@@ -389,30 +389,7 @@ impl Caller {
         ensures node { self.new.node ≡ self.old.node }
         ensures did { Does self.old.node (Tries call.Rejoin reply.Rejoin) result self.old.pass self.new.pass }
     {
-        answered(self.node.rejoin(rt, &mut self.pass))
-    }
-}
-
-/// Returns the node's answer, or the error of the lock.
-fn let_in<T: Drop>(answer: Result<T, LockError>) -> Result<T, ClusterError>
-    ensures { result ≡ let_in answer }
-{
-    match answer {
-        Ok(value) => Ok(value),
-        Err(error) => Err(ClusterError::from(error)),
-    }
-}
-
-/// Returns the node's answer, or the error of the lock or of the node.
-fn answered<T: Drop>(
-    answer: Result<Result<T, node_core::NodeError>, LockError>,
-) -> Result<T, ClusterError>
-    ensures { result ≡ allowed answer }
-{
-    match answer {
-        Ok(Ok(value)) => Ok(value),
-        Ok(Err(error)) => Err(ClusterError::from(error)),
-        Err(error) => Err(ClusterError::from(error)),
+        allowed(self.node.rejoin(rt, &mut self.pass))
     }
 }
 

@@ -1,6 +1,7 @@
 //! The hosts of an agent: those of its settings, and those of a file that is read again while it runs.
-ghost use Rattle.std.specs.Prelude.{◌≡◌, IfOk, IsSome, IsTrue};
+ghost use Rattle.std.specs.Prelude.{◌≡◌, IfOk, IsSome, IsTrue, List, ℕ};
 ghost use Rattle.std.specs.IoError.{error_kind};
+ghost use Rattle.agent_core.specs.Hosts.{IsHostList};
 ghost use Rattle.agent_node.specs.Errors.{error_of_reading};
 ghost use Rattle.agent_node.specs.Hosts.{are_among, are_same, is_among};
 
@@ -41,7 +42,9 @@ fn unread(error: Error) -> AgentError
 }
 
 /// Reads the hosts that a file lists. It reads no more than one byte more than they may have.
-fn read_hosts<R: Files>(rt: &R, alloc: Global, path: &str) -> Result<Vec<Address>, AgentError> {
+fn read_hosts<R: Files>(rt: &R, alloc: Global, path: &str) -> Result<Vec<Address>, AgentError>
+    ensures { IfOk result (λ hosts. (bytes : List ℕ) × IsHostList bytes hosts.items) }
+{
     // (the opening of a pipe would await its other end)
     if !metadata(rt, path).map_err(unread)?.is_file() {
         return Err(AgentError::NotAFile);

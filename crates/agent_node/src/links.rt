@@ -2,7 +2,7 @@
 //! name the node that gave it.
 ghost use Rattle.std.specs.Prelude.{◌≡◌, ◌↔◌, ◌⊎◌, IsTrue, None, false};
 ghost use Rattle.agent_node.specs.PeerLinks.{failures_by};
-ghost use Rattle.agent_node.specs.Noting.{source_of};
+ghost use Rattle.agent_node.specs.Noting.{disowned_by, disowned_with, source_of};
 
 use crate::agents::Agent;
 use crate::peer_links::PeerLink;
@@ -33,6 +33,16 @@ pub fn source_of(answer: &Result<Message, LinkError>) -> Option<Address>
     match answer {
         Ok(message) => Some(message.source),
         Err(_) => None,
+    }
+}
+
+/// Returns how many requests in a row were answered by a NotOwner, after this number of them and one that was answered by this content.
+fn disowned_by(disowned: u32, content: &Content) -> u32
+    ensures { result ≡ disowned_by disowned content.now }
+{
+    match content {
+        Content::NotOwner => disowned.saturating_add(1),
+        _ => 0,
     }
 }
 
@@ -82,16 +92,14 @@ impl<'a, R: Host> NotedLink<'a, R> {
 
     /// Returns how many requests in a row were answered so, with this answer of their owner by this node's view: it is not
     /// the owner. Warns, unless the log said so last, if there are as many as there are sends of a request.
-    fn disowned_with(&self, owner: Address, answer: &Result<Message, LinkError>) -> u32 {
+    fn disowned_with(&self, owner: Address, answer: &Result<Message, LinkError>) -> u32
+        ensures { result ≡ disowned_with self.now.disowned answer.now }
+    {
         let Ok(message) = answer else {
             return 0;
         };
-        let is_disowned = matches!(&message.content, Content::NotOwner);
-        let disowned = if is_disowned {
-            self.disowned.saturating_add(1)
-        } else {
-            0
-        };
+        let disowned = disowned_by(self.disowned, &message.content);
+        let is_disowned = disowned > 0;
         if is_disowned && disowned < MAX_SENDS {
             return disowned;
         }

@@ -1,6 +1,9 @@
 //! The ring on its way to the application that is told of it, from the thread of the rounds to a thread of its own.
-ghost use Rattle.std.specs.Prelude.{◌≡◌, IfSome};
+ghost use Rattle.std.specs.Prelude.{◌≡◌, Bool, IfSome, Option};
+ghost use Rattle.agent_core.specs.Tellings.{after_all};
+ghost use Rattle.agent_core.specs.declared.tellings.Ring.{Ring};
 ghost use Rattle.agent_node.specs.Digests.{ring_digest};
+ghost use Rattle.agent_node.specs.Tellings.{events_of};
 
 use crate::digests::ring_digest;
 use agent_core::{Ring, Telling, on_ring};
@@ -35,6 +38,18 @@ pub struct Teller {
     pub failed: Count,
     /// 1 while a ring is to be told, else 0.
     pub untold: Count,
+}
+
+/// Notes a ring, if one came, and then a hurry, if there is one.
+fn pass(telling: &mut Telling, ring: Option<Ring>, hurries: bool)
+    ensures { telling.new ≡ after_all telling.old (events_of ring hurries) }
+{
+    if let Some(ring) = ring {
+        telling.note(ring);
+    }
+    if hurries {
+        telling.hurry();
+    }
 }
 
 impl Teller {
@@ -93,15 +108,15 @@ impl Teller {
     }
 
     /// Moves the ring that was noted to what is to be told.
-    pub fn pass_to<R: Wait>(&self, rt: &R, telling: &mut Telling) {
+    pub fn pass_to<R: Wait>(&self, rt: &R, telling: &mut Telling)
+        ensures { (ring : Option Ring) × (hurries : Bool) × (telling.new ≡ after_all telling.old (events_of ring hurries)) }
+    {
         let mut noted = self.noted.lock(rt);
-        if let Some(ring) = noted.take() {
-            telling.note(ring);
-        }
-        if self.is_hurried.get() {
+        let hurries = self.is_hurried.get();
+        if hurries {
             self.is_hurried.set(false);
-            telling.hurry();
         }
+        pass(telling, noted.take(), hurries);
         self.untold.set(u64::from(telling.next.is_some()));
         if telling.next.is_none() {
             self.all_told.unpark();

@@ -18,7 +18,8 @@ use Rattle.line_service.specs.declared.inputs.Input.{Input}
 use Rattle.line_service.specs.declared.inputs.Input.TheVariants as input
 use Rattle.agent_peers.specs.Serving.{AsksFor, IsAnsweredHere, RespondsAsking, asks}
 use Rattle.agent_node.specs.Noting.{handler_of, notes_handling}
-use Rattle.agent_node.specs.Calling.{Calling, HasMade, hash_of}
+use Rattle.hash_ring.specs.Points.{hash_of}
+use Rattle.agent_node.specs.Calling.{Calling, HasMade}
 use Rattle.agent_node.specs.declared.links.NotedHandler.{NotedHandler}
 
 -- what was asked of one that was not called before: it was called once if it notes that, and else never

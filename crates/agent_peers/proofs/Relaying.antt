@@ -6,7 +6,6 @@ use Rattle.change_core.specs.declared.addresses.Address.{Address}
 use Rattle.change_core.specs.declared.changes.Change.{Change}
 use Rattle.hash_ring.specs.declared.hash.Sha256Hash.{Sha256Hash}
 use Rattle.message_core.specs.declared.messages.Message.{Message}
-use Rattle.node_core.specs.Viewing.{Viewed}
 use Rattle.node_core.specs.declared.events.Event.TheVariants as call
 use Rattle.node_core.specs.declared.events.Reply.TheVariants as reply
 use Rattle.peer_core.specs.Acts.{Act, OfActs, Just, Makes, Then, did, looked}
@@ -17,7 +16,7 @@ use Rattle.peer_core.specs.Parts.{Calls, Does}
 use Rattle.peer_core.specs.Serving.{message_by}
 use Rattle.peer_core.specs.declared.errors.ClusterError.{ClusterError}
 use Rattle.peer_core.proofs.Acts.{makes_as}
-use Rattle.agent_node.specs.Calling.{Calling, HasMade, Looks}
+use Rattle.agent_node.specs.Calling.{Calling, HasMade}
 use Rattle.agent_peers.specs.Relays.{Chooses, IsNotReturned, IsPassedOn, IsRelayed, Joins, Keeps, MayJoin, Meets, Names, NamesNobody, OnlyLooks, PassesOn, Withholds, is_look}
 use Rattle.agent_peers.specs.declared.relays.Relayed.{Relayed}
 use Rattle.agent_peers.specs.declared.relays.Relayed.TheVariants.{NotDone}
@@ -36,21 +35,12 @@ looks_both : (xs ys : List (Act Sha256Hash)) → OnlyLooks xs → OnlyLooks ys �
 looks_both [] ys h k = k
 looks_both (x ∷ xs) ys h k = (h.0, looks_both xs ys h.1 k)
 
--- a view
-looks_view : (r : Result (Viewed Sha256Hash) ClusterError) (acts : List (Act Sha256Hash)) → Looks r acts → OnlyLooks acts
-looks_view (Ok view) acts one = looks_one acts (looked (Ok view)) one refl
-looks_view (Err e) acts (inl h) = subst OnlyLooks (sym h.0) tt
-looks_view (Err e) acts (inr (n, one, is)) = looks_one acts (looked (Err n)) one refl
-
 -- the own entry
 looks_own : (r : Result Change ClusterError) (acts : List (Act Sha256Hash)) → Calls call.Own reply.Own r acts → OnlyLooks acts
 looks_own (Ok own) acts one = looks_one acts (did call.Own (reply.Own own)) one refl
 looks_own (Err e) acts h = subst OnlyLooks (sym h.0) tt
 
 -- what is done by a pass, as a thread sees it
-pub looks_quiet : (r : Result (Viewed Sha256Hash) ClusterError) (old new : Calling) → new.node ≡ old.node → Does old.node Looks r old.pass new.pass → HasMade OnlyLooks old new
-looks_quiet r old new same does = record { node = same; makes = makes_as OnlyLooks (looks_view r) does.makes }
-
 pub own_quiet : (r : Result Change ClusterError) (old new : Calling) → new.node ≡ old.node → Does old.node (Calls call.Own reply.Own) r old.pass new.pass → HasMade OnlyLooks old new
 own_quiet r old new same does = record { node = same; makes = makes_as OnlyLooks (looks_own r) does.makes }
 
@@ -122,12 +112,6 @@ module _ {L : Type 0} (Came : MayAnswer) (went : Went L) where
   met request now (Ok n) x y a b ok same asked sent =
       made_as (Meets Came went request x y) (Joins Came went request (Ok n) x y) a b (λ acts h. (n, h)) (joins request now (Ok n) x y a b same asked sent)
   met request now (Err e) x y a b ok same asked sent = absurd (true≢false (sym ok))
-
-  -- the first view names another node than the sender
-  pub chosen_at_once : (request : Message) (owner : Address) (x : L) (a b : Calling) → HasMade (Names request owner) a b → owner ≢ request.source
-      → HasMade (Chooses Came went request owner x x) a b
-  chosen_at_once request owner x a b named other =
-      made_as (Chooses Came went request owner x x) (Names request owner) a b (λ acts names. inl (names, other, refl)) named
 
   -- it names the sender, and another does not
   pub chosen_after : (request : Message) (sender owner : Address) (x y : L) (a b c d : Calling) → sender ≡ request.source → HasMade (Names request sender) a b

@@ -4,7 +4,7 @@ use Rattle.std.specs.Global.{Global}
 use Rattle.change_core.specs.Status.{IsServing}
 use Rattle.change_core.specs.declared.addresses.Address.{Address}
 use Rattle.change_core.specs.declared.changes.Change.{Change}
-use Rattle.hash_ring.specs.Points.{owner}
+use Rattle.hash_ring.specs.Points.{owner, hash_number}
 use Rattle.hash_ring.specs.declared.hash.Sha256Hash.{Sha256Hash}
 use Rattle.message_core.specs.Messages.{kind_of}
 use Rattle.message_core.specs.declared.kinds.Kind.TheVariants as kind
@@ -26,7 +26,7 @@ use Rattle.peer_core.specs.declared.errors.LinkError.TheVariants as link
 use Rattle.line_service.specs.Answering.{line_text}
 use Rattle.line_service.specs.declared.inputs.Input.{Input}
 use Rattle.line_service.specs.declared.inputs.Input.TheVariants as input
-use Rattle.agent_node.specs.Calling.{Calling, HasMade, Looks, hash_number}
+use Rattle.agent_node.specs.Calling.{Calling, HasMade, Looks}
 use Rattle.agent_peers.specs.declared.relays.Relayed.{Relayed}
 use Rattle.agent_peers.specs.declared.relays.Relayed.TheVariants.{Lost, Reply, NoReply, NotDone}
 

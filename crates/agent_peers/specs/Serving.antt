@@ -8,9 +8,9 @@ use Rattle.peer_core.specs.Links.{MayAnswer, Went, any_answer}
 use Rattle.line_service.specs.Answering.{Responds}
 use Rattle.line_service.specs.declared.inputs.Input.{Input}
 use Rattle.line_service.specs.declared.inputs.Input.TheVariants as input
-use Rattle.message_core.specs.declared.messages.Content.{Content}
-use Rattle.message_core.specs.declared.messages.Content.TheVariants.{Forward}
-use Rattle.agent_node.specs.Calling.{Calling, HasMade, hash_of}
+use Rattle.hash_ring.specs.Points.{hash_of}
+use Rattle.kept_links.specs.Exchanges.{is_forward}
+use Rattle.agent_node.specs.Calling.{Calling, HasMade}
 use Rattle.agent_peers.specs.Relays.{IsRelayOf, sent_back}
 use Rattle.agent_peers.specs.declared.relays.Relayed.{Relayed}
 use Rattle.agent_peers.specs.declared.relays.Relayed.TheVariants.{NotDone}
@@ -22,11 +22,6 @@ use Rattle.peer_core.specs.declared.errors.ClusterError.{ClusterError}
 abbrev pub asks : {A : Type 0} → Handled A → Bool → A → A → Handlings
 asks handled true was is = record { once = λ keys body answer. handled keys body answer was is; never = ⊥ }
 asks handled false was is = record { once = λ keys body answer. ⊥; never = is ≡ was }
-
--- whether a content is a request of a key
-abbrev pub is_forward : Content → Bool
-is_forward (Forward keys body) = true
-is_forward other = false
 
 -- whether an input is a request of a key
 abbrev pub is_request : Input → Bool

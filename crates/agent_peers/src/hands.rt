@@ -12,6 +12,7 @@ use change_core::Moment;
 use crossbeam_channel::Receiver;
 use message_core::{Keys, Text};
 use peer_core::{Handler, HandlerFault, HandlerMut, Link};
+use reactor::{Arrived, look_at};
 use std::alloc::Global;
 use std::io::ErrorKind;
 use std::net::TcpStream;
@@ -177,21 +178,6 @@ fn serve_connection<R: Host>(
     }
 }
 
-/// Returns whether the node that sent a request has hung up: its connection has ended, or failed.
-fn has_hung_up(stream: &TcpStream) -> bool {
-    if stream.set_nonblocking(true).is_err() {
-        return true;
-    }
-    let seen = stream.peek(&mut [0]);
-    if stream.set_nonblocking(false).is_err() {
-        return true;
-    }
-    match seen {
-        Ok(count) => count == 0,
-        Err(error) => error.kind() != ErrorKind::WouldBlock,
-    }
-}
-
 /// Answers the requests of the queue, and those that follow over their connections, until the queue has no sender. A request of the queue for
 /// which no time is left is dropped, since the node that sent it would get the answer too late; so is one whose sender has hung up, since another
 /// node may have answered it.
@@ -207,7 +193,8 @@ fn serve_requests<R: Host>(
         let Ok(job) = jobs.recv(&agent.rt) else {
             return;
         };
-        if millis_left(agent, job.since) > 0 && !has_hung_up(&job.stream) {
+        let is_awaited = millis_left(agent, job.since) > 0 && look_at(&job.stream) != Arrived::End;
+        if is_awaited && job.stream.set_nonblocking(false).is_ok() {
             serve_connection(agent, alloc, &mut caller, &mut link, &jobs, job);
         }
         agent.end_forwarded();
@@ -227,7 +214,7 @@ pub fn start_hands<R: System>(
     agent: &Arc<Agent<R>, Global>,
     jobs: &Receiver<Job>,
 ) -> Result<(), AgentError> {
-    for _ in 0..agent.hands {
+    for _ in 0..agent.budget.hands {
         let caller = agent.next_caller()?;
         let agent = Arc::try_clone(agent)?;
         let jobs = jobs.clone()?;

@@ -1,5 +1,5 @@
 //! The joins of the hosts, by a thread of their own: a host that does not answer holds up neither a round nor HTTP.
-ghost use Rattle.agent_peers.specs.Joins.{IsAsked};
+ghost use Rattle.agent_peers.specs.Joins.{HasJoined, IsAsked};
 
 use agent_node::{Agent, AgentError, Caller, NotedLink};
 use agent_state::{Host, System};
@@ -30,7 +30,9 @@ pub fn join_one<R: Host>(
     caller: &mut Caller,
     link: &mut NotedLink<'_, R>,
     host: Address,
-) -> bool {
+) -> bool
+    ensures { HasJoined host result caller.old caller.new }
+{
     let joined = caller.join(&agent.rt, alloc, link, host, agent.now());
     agent.renew(caller);
     if joined.is_ok() {

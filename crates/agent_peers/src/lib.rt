@@ -13,5 +13,5 @@ mod tombstones;
 
 pub use hands::end_hands;
 pub use hosts::start_joins;
-pub use ports::{READERS, set_port_places, start_port};
+pub use ports::{READERS, start_port};
 pub use rounds::start_rounds;

@@ -1,6 +1,6 @@
 //! Lines of other nodes: one in and one out, and then the next for connections that are kept. Gossip is answered immediately, by threads that never
 //! wait for the application.
-ghost use Rattle.std.specs.Prelude.{◌≡◌, IfSome, IsTrue};
+ghost use Rattle.std.specs.Prelude.{◌≡◌, IfOk, IsTrue};
 ghost use Rattle.agent_peers.specs.Serving.{is_request};
 
 use crate::admissions::admit;
@@ -23,6 +23,7 @@ use transport::{Deadline, Timed, send_owned_line};
 #[derive(Drop)]
 pub struct Job {
     pub input: Input,
+    /// Its reads and writes do not wait until a hand takes it.
     pub stream: TcpStream,
     pub since: Moment,
     /// Whether the other node asks to keep the connection.
@@ -44,6 +45,13 @@ pub fn line_for<R: Host, A: HandlerMut>(
     line
 }
 
+/// A line that goes back over the connection of an input.
+#[derive(Drop)]
+pub struct Answer {
+    pub line: Vec<u8>,
+    pub stream: TcpStream,
+}
+
 /// Sends a line over a connection, as one of this agent's cluster, and marked if the connection is kept. Returns the connection; None if that fails: the
 /// line is lost, also where it is too long with the name.
 pub fn send_back<R: Host>(
@@ -62,19 +70,20 @@ pub fn send_back<R: Host>(
     Some(stream.into_inner())
 }
 
-/// Answers an input over its connection.
-fn answer<R: Host, A: HandlerMut>(
+/// Returns the answer to an input; None if it needs none, or none could be made.
+fn answer_to<R: Host, A: HandlerMut>(
     agent: &Agent<R>,
     alloc: Global,
     caller: &mut Caller,
     link: &mut PeerLink<'_, R, R>,
     handler: &mut A,
     job: Job,
-) {
-    let line = line_for(agent, alloc, caller, link, handler, &job.input);
-    if let Some(line) = line {
-        let _sent = send_back(agent, alloc, job.stream, line, false);
-    }
+) -> Option<Answer> {
+    let line = line_for(agent, alloc, caller, link, handler, &job.input)?;
+    Some(Answer {
+        line,
+        stream: job.stream,
+    })
 }
 
 /// Returns whether an input is a request of a key.
@@ -106,27 +115,28 @@ fn listen_to<R: Host>(agent: &Agent<R>, alloc: Global, stream: TcpStream) -> Opt
     })
 }
 
-/// Returns the request of a key that an input is. What else came is answered immediately, and so is a request that comes before a host has
-/// answered: it is refused.
+/// Returns the request of a key that an input is.
+///
+/// # Errors
+///
+/// - The answer, if something else came, or a request before a host has answered, which is refused; None if it needs none, or none could be made.
 fn request_of<R: Host>(
     agent: &Agent<R>,
     alloc: Global,
     caller: &mut Caller,
     link: &mut PeerLink<'_, R, R>,
     mut job: Job,
-) -> Option<Job>
-    ensures { IfSome result (λ request. IsTrue (is_request request.input)) }
+) -> Result<Job, Option<Answer>>
+    ensures { IfOk result (λ request. IsTrue (is_request request.input)) }
 {
     job.input = admit(agent, caller, job.input);
     if !is_request(&job.input) {
-        answer(agent, alloc, caller, link, &mut &agent.application, job);
-        return None;
+        return Err(answer_to(agent, alloc, caller, link, &mut &agent.application, job));
     }
     if agent.life.is_starting.get() {
-        answer(agent, alloc, caller, link, &mut &Joining, job);
-        return None;
+        return Err(answer_to(agent, alloc, caller, link, &mut &Joining, job));
     }
-    Some(job)
+    Ok(job)
 }
 
 /// Returns the request of a key that comes over a connection within the time limit. What else comes is answered immediately.
@@ -138,11 +148,18 @@ pub fn next_request<R: Host>(
     stream: TcpStream,
 ) -> Option<Job> {
     let job = listen_to(agent, alloc, stream)?;
-    request_of(agent, alloc, caller, link, job)
+    match request_of(agent, alloc, caller, link, job) {
+        Ok(request) => Some(request),
+        Err(answer) => {
+            let Answer { line, stream } = answer?;
+            let _sent = send_back(agent, alloc, stream, line, false);
+            None
+        }
+    }
 }
 
-/// Has an input answered. A request goes to the queue of the hands, the threads that have the application answer; if the queue is full, it is
-/// answered that too many wait.
+/// Returns the answer to an input; None if it needs none, or none could be made. A request goes to the queue of the hands, the threads that have the
+/// application answer; only if the queue is full, it is answered here: too many wait.
 pub fn serve_job<R: Host>(
     agent: &Agent<R>,
     alloc: Global,
@@ -150,16 +167,18 @@ pub fn serve_job<R: Host>(
     link: &mut PeerLink<'_, R, R>,
     hands: &Sender<Job>,
     job: Job,
-) {
-    let Some(job) = request_of(agent, alloc, caller, link, job) else {
-        return;
+) -> Option<Answer> {
+    let job = match request_of(agent, alloc, caller, link, job) {
+        Ok(job) => job,
+        Err(answer) => return answer,
     };
     agent.forwarded.add(1);
     let Err(refused) = hands.try_send(&agent.rt, job) else {
-        return;
+        return None;
     };
     agent.end_forwarded();
-    if let TrySendError::Full(job) = refused {
-        answer(agent, alloc, caller, link, &mut &Overloaded, job);
-    }
+    let TrySendError::Full(job) = refused else {
+        return None;
+    };
+    answer_to(agent, alloc, caller, link, &mut &Overloaded, job)
 }

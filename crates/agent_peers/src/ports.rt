@@ -5,18 +5,16 @@ ghost use Rattle.agent_peers.specs.declared.lines.Heard.{Heard};
 
 use crate::hands::start_hands;
 use crate::lines::{Heard, hear_own, input_of};
-use crate::peers::{Job, serve_job};
+use crate::peers::{Answer, Job, serve_job};
 use agent_core::Notice;
 use agent_node::{Agent, AgentError, Caller, PeerLink, unwatched};
 use agent_state::{Host, System};
 use change_core::Moment;
-use cluster_names::ClusterName;
+use cluster_names::{ClusterName, line_sent};
 use crossbeam_channel::{Sender, bounded};
 use kept_links::Marked;
-use line_service::{Arrival, Input, MAX_PLACES, MAX_READ, Port, Turn, millis_of, places_with};
-use log::warn;
+use line_service::{Arrival, Input, MAX_READ, Port, Turn, millis_of};
 use message_core::{Reason, WireError};
-use reactor::max_descriptors;
 use std::alloc::Global;
 use std::net::{TcpListener, TcpStream};
 use std::sync::{Arc, Mutex};
@@ -25,24 +23,11 @@ use std::thread;
 /// The number of threads of the node's port. They read lines there, answer gossip, and watch the connections that wait, one of them at a time.
 pub const READERS: u32 = 5;
 
-/// The most requests of other nodes that wait for the application.
-const MAX_QUEUED_REQUESTS: usize = 256;
-
 /// What the readers share: the port, and what the log said last of its connections.
 #[derive(Drop)]
 struct Readers {
     port: Port,
     notice: Mutex<Notice>,
-}
-
-/// Sets how many connections may wait at the node's port, and logs it if that is fewer than 1,000. Those of HTTP are set.
-pub fn set_port_places<R: Host>(agent: &Agent<R>) {
-    let descriptors = max_descriptors().unwrap_or(u64::MAX);
-    let places = places_with(descriptors.saturating_sub(agent.http.limit() as u64));
-    if places < MAX_PLACES {
-        warn!(agent.log(); "{places} connections at the node's port at a time, not {MAX_PLACES}: there are {descriptors} descriptors (ulimit -n)");
-    }
-    agent.port.set_limit(places as usize);
 }
 
 /// Returns what came to a node of this cluster over a connection, and whether it is marked.
@@ -92,6 +77,13 @@ fn arrived<R: Host>(agent: &Agent<R>, alloc: Global, came: Arrival) -> Job
     job_of(agent, came.stream, heard, is_marked, came.until)
 }
 
+/// Sends an answer from the port, as a line of this agent's cluster. It is lost if it is too long with the name, or if out of memory.
+fn send<R: Host>(agent: &Agent<R>, alloc: Global, port: &Port, answer: Answer) {
+    if let Ok(line) = line_sent(alloc, &agent.cluster, answer.line) {
+        port.answer(&agent.rt, &agent.stopwatch, answer.stream, line);
+    }
+}
+
 /// Has what comes to the port answered, until that is closed.
 fn serve_port<R: Host>(
     agent: Arc<Agent<R>, Global>,
@@ -110,7 +102,9 @@ fn serve_port<R: Host>(
         {
             Turn::Came(came) => {
                 let job = arrived(agent, alloc, came);
-                serve_job(agent, alloc, &mut caller, &mut link, &hands, job);
+                if let Some(answer) = serve_job(agent, alloc, &mut caller, &mut link, &hands, job) {
+                    send(agent, alloc, &readers.port, answer);
+                }
             }
             Turn::Watched(accepted) => {
                 let mut notice = readers.notice.lock(&agent.rt);
@@ -139,7 +133,7 @@ fn start_reader<R: System>(
     Ok(())
 }
 
-/// Starts the threads of the node's port, whose places are set: the readers, and the hands that have the application answer what they take.
+/// Starts the threads of the node's port: the readers, and the hands that have the application answer what they take.
 ///
 /// # Errors
 ///
@@ -153,6 +147,7 @@ pub fn start_port<R: System>(
     agent: &Arc<Agent<R>, Global>,
     listener: TcpListener,
 ) -> Result<(), AgentError> {
+    agent.port.set_limit(agent.budget.nodes as usize);
     let places = Arc::try_clone(&agent.port)?;
     let port = Port::new(rt, alloc, listener, places, agent.timeouts.line);
     let readers = Readers {
@@ -160,7 +155,7 @@ pub fn start_port<R: System>(
         notice: Mutex::new(Notice::new()),
     };
     let readers = Arc::new(alloc, readers)?;
-    let (hands, jobs) = bounded(alloc, MAX_QUEUED_REQUESTS)?;
+    let (hands, jobs) = bounded(alloc, agent.budget.queued as usize)?;
     for _ in 0..READERS {
         start_reader(rt, alloc, agent, &readers, &hands)?;
     }

@@ -1,6 +1,6 @@
 //! Requests that other nodes sent to this one though it does not own them: they are passed on to the owner, and its reply
 //! goes back.
-ghost use Rattle.std.specs.Prelude.{◌≡◌, ◌≢◌, ◌≤◌, ◌↔◌, ◌/◌, cond, IfNone, IfSome, IsTrue};
+ghost use Rattle.std.specs.Prelude.{◌≡◌, ◌≢◌, ◌≤◌, ◌↔◌, ◌/◌, cond, IfNone, IfSome, IsTrue, None};
 ghost use Rattle.peer_core.specs.Acts.{Then};
 ghost use Rattle.peer_core.specs.Serving.{message_by};
 ghost use Rattle.agent_node.specs.Calling.{HasMade};
@@ -70,7 +70,9 @@ fn has_time(left: u64) -> bool
 }
 
 /// Makes a link by which a request is passed on: it waits for an answer as long as an owner may take.
-pub fn relay_link<R: Host>(agent: &Agent<R>) -> NotedLink<'_, R> {
+pub fn relay_link<R: Host>(agent: &Agent<R>) -> NotedLink<'_, R>
+    ensures { result.last ≡ None }
+{
     NotedLink::within(agent, MAX_RELAY)
 }
 
@@ -270,7 +272,7 @@ pub fn relay<R: Host, L: Link>(
     let Input::Message(request) = &mut job.input else {
         return Relayed::NotDone;
     };
-    let most = most_relayed(agent.hands, agent.life.has_left.get());
+    let most = most_relayed(agent.budget.hands, agent.life.has_left.get());
     if !agent.relaying.add_below(most) {
         return Relayed::NotDone;
     }

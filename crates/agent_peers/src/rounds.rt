@@ -1,6 +1,8 @@
 //! Rounds of gossip, and the last ones before the end.
-ghost use Rattle.std.specs.Prelude.{◌≡◌};
-ghost use Rattle.agent_peers.specs.Rounds.{MakesRound, healing_seed, silent_in};
+ghost use Rattle.std.specs.Prelude.{◌≡◌, is_err};
+ghost use Rattle.agent_core.specs.Warnings.{told};
+ghost use Rattle.agent_node.specs.Calling.{HasMade};
+ghost use Rattle.agent_peers.specs.Rounds.{AsksRing, MakesRound, healing_seed, silent_in};
 
 use crate::hosts::MAX_FIRST_WAIT;
 use crate::tombstones::meet_tombstone;
@@ -85,7 +87,10 @@ fn count_round(counters: &Counters, round: &Result<Round, ClusterError>) {
 
 impl<'a, R: Host> Rounds<'a, R> {
     /// Returns the members if they changed since they were last logged; None also if the node does not tell them.
-    fn changed(&mut self) -> Option<Changed> {
+    #[tactic(auto, using(crate::proofs::Reading::asks_both, crate::proofs::Reading::asks_digest, crate::proofs::Reading::asks_nothing))]
+    fn changed(&mut self) -> Option<Changed>
+        ensures { HasMade AsksRing self.old.caller self.new.caller }
+    {
         let agent = self.agent;
         let _moving = agent.life.moving.lock(&agent.rt);
         let digest = self.caller.digest(&agent.rt).ok()?;
@@ -104,7 +109,10 @@ impl<'a, R: Host> Rounds<'a, R> {
 
     /// Logs how the members changed since they were last logged; `round` is the last round. Returns whether this node's own
     /// entry was refuted.
-    fn log_members(&mut self, round: &Result<Round, ClusterError>) -> bool {
+    #[tactic(auto, using(crate::proofs::Reading::asks_nothing))]
+    fn log_members(&mut self, round: &Result<Round, ClusterError>) -> bool
+        ensures { HasMade AsksRing self.old.caller self.new.caller }
+    {
         let agent = self.agent;
         if agent.life.is_starting.get() {
             return false;
@@ -138,7 +146,10 @@ impl<'a, R: Host> Rounds<'a, R> {
 
     /// Notes the ring for the application, and its digest for the questions that wait until it changes; none if memory runs out for it, so that they are answered.
     /// The next round tries again then.
-    fn note_ring(&mut self) {
+    #[tactic(auto, using(crate::proofs::Reading::asks_both, crate::proofs::Reading::asks_digest, crate::proofs::Reading::asks_nothing))]
+    fn note_ring(&mut self)
+        ensures { HasMade AsksRing self.old.caller self.new.caller }
+    {
         let agent = self.agent;
         if agent.life.is_starting.get() {
             return;
@@ -161,13 +172,17 @@ impl<'a, R: Host> Rounds<'a, R> {
     }
 
     /// Has the application told now that the node leaves, whatever failed before.
-    fn tell_of_end(&mut self) {
+    fn tell_of_end(&mut self)
+        ensures { HasMade AsksRing self.old.caller self.new.caller }
+    {
         self.note_ring();
         self.agent.teller.hurry();
     }
 
     /// Has the questions answered for which the ring has changed.
-    fn answer_questions(&mut self) {
+    fn answer_questions(&mut self)
+        ensures { HasMade AsksRing self.old.caller self.new.caller }
+    {
         self.note_ring();
         let agent = self.agent;
         let now = agent.now().number();
@@ -185,7 +200,9 @@ impl<'a, R: Host> Rounds<'a, R> {
     }
 
     /// Logs how the members changed, and whether this node's own entry is refuted again and again.
-    fn log(&mut self, round: &Result<Round, ClusterError>) {
+    fn log(&mut self, round: &Result<Round, ClusterError>)
+        ensures { HasMade AsksRing self.old.caller self.new.caller }
+    {
         let is_refuted = self.log_members(round);
         if self.refutations.note(is_refuted) {
             let own = self.agent.own;
@@ -194,7 +211,10 @@ impl<'a, R: Host> Rounds<'a, R> {
     }
 
     /// Logs that a round failed, or that rounds succeed again, unless the log said so last.
-    fn log_errors(&mut self, round: &Result<Round, ClusterError>, now: Moment) {
+    fn log_errors(&mut self, round: &Result<Round, ClusterError>, now: Moment)
+        ensures notice { self.new.round_notice ≡ told self.old.round_notice (is_err round.now) now }
+        ensures caller { self.new.caller ≡ self.old.caller }
+    {
         if !self.round_notice.note(round.is_err(), now) {
             return;
         }

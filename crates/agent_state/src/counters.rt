@@ -216,7 +216,9 @@ impl Changes {
     }
 
     /// Returns the counts, with this number of refutations.
-    fn counts(&self, refuted: u64) -> ChangeCounts {
+    fn counts(&self, refuted: u64) -> ChangeCounts
+        ensures { result.refuted ≡ refuted }
+    {
         ChangeCounts {
             alive: self.alive.get(),
             suspect: self.suspect.get(),

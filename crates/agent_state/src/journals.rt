@@ -1,6 +1,7 @@
 //! The log of an agent: lines on standard error, each with its time and the node's address. A thread of their own writes them, so that no other
 //! thread waits for a standard error that is not read: lines that find no place are dropped, and counted.
-ghost use Rattle.std.specs.Prelude.{[], Some};
+ghost use Rattle.std.specs.Prelude.{◌≡◌, [], IfOk, Some, is_none, string_bytes};
+ghost use Rattle.agent_core.specs.LogLines.{IsOneLine};
 
 use crate::counters::Count;
 use crate::systems::{Host, System};
@@ -37,13 +38,17 @@ pub enum LogError {
 }
 
 impl From<AllocError> for LogError {
-    fn from(_: AllocError) -> LogError {
+    fn from(_: AllocError) -> LogError
+        ensures { result ≡ LogError.Memory }
+    {
         LogError::Memory
     }
 }
 
 impl<T: Drop> From<AllocFailed<T>> for LogError {
-    fn from(_: AllocFailed<T>) -> LogError {
+    fn from(_: AllocFailed<T>) -> LogError
+        ensures { result ≡ LogError.Memory }
+    {
         LogError::Memory
     }
 }
@@ -155,7 +160,9 @@ impl<R: Host> Journal<R> {
     }
 
     /// Returns the line of a message at the present time as JSON, without its newline.
-    fn json<D: Display>(&self, metadata: &Metadata<'_>, message: &D) -> Result<String, AllocError> {
+    fn json<D: Display>(&self, metadata: &Metadata<'_>, message: &D) -> Result<String, AllocError>
+        ensures { IfOk result (λ line. IsOneLine (string_bytes line)) }
+    {
         let time = match self.time() {
             Some(time) => Some(format!(in self.alloc; "{time:.3}")?),
             None => None,
@@ -217,7 +224,9 @@ impl<R: Host> Journal<R> {
     }
 
     /// Writes an entry: how many lines were dropped before it, if any, and its line. Returns whether it ends the log.
-    fn write_entry(&self, entry: Entry) -> bool {
+    fn write_entry(&self, entry: Entry) -> bool
+        ensures { result ≡ is_none entry.text }
+    {
         let Entry { dropped, text } = entry;
         if dropped > 0 {
             self.write_dropped(dropped);
@@ -242,7 +251,9 @@ impl<R: Host> Journal<R> {
     }
 
     /// Returns how many lines wait, the most that may, and how many were dropped since the agent started.
-    pub fn counts(&self) -> LogCounts {
+    pub fn counts(&self) -> LogCounts
+        ensures { result.max ≡ MAX_LINES }
+    {
         LogCounts {
             used: self.entries.len() as u64,
             max: MAX_LINES as u64,

@@ -1,27 +1,23 @@
 -- Folding an input line by line.
-use Rattle.std.proofs.Common.{◌≡◌, ◌≢◌, ℕ, ◌+◌, ◌≤◌, true, false, List, [], ◌∷◌, ◌++◌, map, length, length-append, Option, Some, None, Ok, Err, Vec, Global, refl, sym, ap, subst, ◌∙◌, append_assoc, append-nil, inl, inr, arith, lit≤}
+use Rattle.std.proofs.Common.{◌≡◌, ◌≢◌, ℕ, ◌+◌, ◌≤◌, true, false, List, [], ◌∷◌, ◌++◌, map, length, length-append, Option, Some, None, Ok, Err, Vec, Global, refl, sym, ap, ◌∙◌, append_assoc, append-nil, inl, inr, arith}
 use Rattle.std.specs.Prelude.{IfSome}
-use Rattle.std.specs.Io.KnownBytes.{Appends}
 use Rattle.std.proofs.lemmas.List.{map-append}
 use Rattle.change_core.specs.declared.changes.Change.{Change}
 use Rattle.change_core.specs.declared.changes.Sourced.{Sourced}
 use Rattle.change_core.specs.Change.{change_of}
-use Rattle.change_core.specs.Members.{members, IsMemberList}
+use Rattle.change_core.specs.Members.{members}
 use Rattle.change_core.specs.Numbers.{greatest_number, most_members}
-use Rattle.change_core.proofs.Members.{members-append, IsMemberList-members}
+use Rattle.change_core.proofs.Members.{members-append}
 use Rattle.wire_json.specs.Forms.{ChangeFault}
 use Rattle.wire_json.specs.Lines.{Faults}
-use Rattle.wire_json.specs.Input.{AppendsPrefix}
 use Rattle.message_core.specs.declared.errors.WireError.{WireError}
 use Rattle.message_core.specs.declared.errors.WireError.TheVariants.{LineTooLong, BadJson, NotObject, UnknownKind, MissingField, BadField, TooMany, Io, Memory}
 use Rattle.cli_core.specs.declared.faults.LineError.{LineError}
-use Rattle.cli_core.specs.declared.faults.RunError.{RunError}
-use Rattle.cli_core.specs.declared.faults.RunError.TheVariants.{AtLine, OutOfMemory, CannotWrite}
+use Rattle.cli_core.specs.declared.faults.RunError.TheVariants.{AtLine}
 use Rattle.cli_core.specs.Input.{lines_of}
 use Rattle.cli_core.specs.Counted.{IsCountedFault, IsUnread, ReadsLine}
 use Rattle.cli_core.specs.Faults.{fault_of_wire}
 use Rattle.cli_core.specs.Changes.{IsChangeLine, AreChangeLines, ComeTo, IsLineFault, IsFaultAt, IsCounted, IsHeard, IsRefused, Hears}
-use Rattle.cli_core.specs.Runs.{RunsTo, Writes, Leaves, LeavesPart}
 
 -- ---- one line
 
@@ -83,9 +79,6 @@ AreChangeLines-more [] (d ∷ heard) line c h i = absurd h
 AreChangeLines-more (l ∷ lines) [] line c h i = absurd h
 AreChangeLines-more (l ∷ lines) (d ∷ heard) line c h i = (h.0, AreChangeLines-more lines heard line c h.1 i)
 
-pub ComeTo-nil : ComeTo [] []
-ComeTo-nil = record { heard = []; read = tt; are_members = refl; fits = lit≤ tt }
-
 pub ComeTo-more : (lines : List (List ℕ)) (held now : List Change) (line : List ℕ) (c : Sourced) → ComeTo lines held → IsChangeLine line c
     → now ≡ members (held ++ c.change ∷ []) → length now ≤ most_members → ComeTo (lines ++ line ∷ []) now
 ComeTo-more lines held now line c p i e fits = record {
@@ -106,10 +99,6 @@ ComesTo known held = IfSome known (λ input. IsHeard input held)
 pub record HasHeard (known left : Option (List ℕ)) (number : ℕ) (held : List Change) : Type 0 where
   pub is : IfSome known (λ input. (rest : List ℕ) × (before : List (List ℕ)) × (left ≡ Some rest)
       × (lines_of input ≡ before ++ lines_of rest) × ComeTo before held × (number ≡ length before + 1))
-
-pub starts : (known : Option (List ℕ)) (held : List Change) → held ≡ [] → HasHeard known known 1 held
-starts None held e = record { is = tt }
-starts (Some input) held e = record { is = (input, [], refl, refl, rw e ComeTo-nil, refl) }
 
 goes_known : (input : List ℕ) (left new : Option (List ℕ)) (number : ℕ) (held now : List Change)
     → (rest : List ℕ) × (before : List (List ℕ)) × (left ≡ Some rest) × (lines_of input ≡ before ++ lines_of rest) × ComeTo before held × (number ≡ length before + 1)
@@ -148,33 +137,3 @@ faults (Some input) left new number held now f p h counted =
     let (rest, before, is, lines, come_to, place) = p.is in
     let fault = rw is at h in
     record { before = before; left = lines_of rest; held = held; lines = lines; come_to = come_to; place = place; is = fault; counted = counted }
-
--- ---- the output
-
-pub unwritten : (known : Option (List ℕ)) (held : List Change) → ComesTo known held → IfSome known (λ input. IsRefused input CannotWrite)
-unwritten None held p = tt
-unwritten (Some input) held p = (held, p)
-
-RunsTo-text : (text : List Change → List ℕ) (input : List ℕ) (held : List Change) → IsHeard input held → RunsTo text input (text held)
-RunsTo-text text input held p = record { held = held; come_to = p.0; counted = p.1; is = refl }
-
-pub written : (text : List Change → List ℕ) (known old new : Option (List ℕ)) (held : List Change) (output : List ℕ) → ComesTo known held
-    → output ≡ text held → Appends old new output → Writes text known old new
-written text None old new held output p e a = tt
-written text (Some input) old new held output p e a = (text held, RunsTo-text text input held p, rw e at a)
-
-pub prefix_written : (text : List Change → List ℕ) (known old new : Option (List ℕ)) (held : List Change) (output : List ℕ) → ComesTo known held
-    → output ≡ text held → AppendsPrefix old new output → Leaves text CannotWrite known old new
-prefix_written text None old new held output p e a = tt
-prefix_written text (Some input) old new held output p e a = (text held, RunsTo-text text input held p, rw e at a)
-
--- the members that an input comes to are such a list
-held_members : (input : List ℕ) (held : List Change) → IsHeard input held → IsMemberList held
-held_members input held p = let c = p.0 in subst IsMemberList (sym c.are_members) (IsMemberList-members (map change_of c.heard))
-
-pub left_by : (text : List Change → List ℕ) (known old new : Option (List ℕ)) (held : List Change) (output : List ℕ) (fault : RunError) → ComesTo known held
-    → (IsMemberList held → output ≡ text held) → LeavesPart output fault old new → Leaves text fault known old new
-left_by text known old new held output (AtLine number fault) p e h = absurd h
-left_by text known old new held output OutOfMemory p e h = h
-left_by text None old new held output CannotWrite p e h = tt
-left_by text (Some input) old new held output CannotWrite p e h = prefix_written text (Some input) old new held output p (e (held_members input held p)) h

@@ -1,27 +1,16 @@
 -- A script, line by line.
-use Rattle.std.proofs.Common.{ℕ, ◌≤◌, List, [], ◌∷◌, ◌++◌, length, Option, Some, None, Ok, Err, refl, sym, ap, subst, ◌∙◌, append_assoc, append-nil, inl, inr}
+use Rattle.std.proofs.Common.{ℕ, ◌≤◌, List, [], ◌∷◌, ◌++◌, length, Option, Some, None, Ok, Err, refl, sym, ap, subst, ◌∙◌, append_assoc, append-nil, inr}
 use Rattle.std.specs.Prelude.{IfErr, IsOkUnless, Result}
 use Rattle.std.specs.Io.KnownBytes.{Appends}
 use Rattle.wire_json.specs.Lines.{max_line}
-use Rattle.message_core.specs.declared.errors.WireError.{WireError}
-use Rattle.message_core.specs.declared.errors.WireError.TheVariants.{LineTooLong, Io, Memory}
 use Rattle.cli_core.specs.declared.scripts.answers.Answer.{Answer}
 use Rattle.cli_core.specs.declared.scripts.lines.Command.{Command}
 use Rattle.cli_core.specs.declared.scripts.lines.Command.TheVariants as command
 use Rattle.cli_core.specs.declared.scripts.faults.ScriptError.{ScriptError}
 use Rattle.cli_core.specs.declared.scripts.faults.ScriptError.TheVariants as fault
-use Rattle.cli_core.specs.Counted.{IsCountedFault, IsUnread}
 use Rattle.cli_core.specs.Simulated.{Simulated, Obeys}
 use Rattle.cli_core.specs.ScriptLines.{IsCommand}
-use Rattle.cli_core.specs.ScriptRuns.{AnswersAll, AnswersLine, IsCountedLine, IsLineRefused, IsRefusedAt, fault_of_read}
-
--- ---- one line that is read
-
--- an error of reading tells of a line that is counted, or of the machine
-pub counted_line : (number : ℕ) (e : WireError) → IsCountedFault number e → IsCountedLine number (fault_of_read e)
-counted_line number e (inl q) = rw q (inl tt)
-counted_line number e (inr (inl q)) = rw q (inl tt)
-counted_line number e (inr (inr q)) = inr q.1
+use Rattle.cli_core.specs.ScriptRuns.{AnswersAll, AnswersLine, IsLineRefused, IsRefusedAt}
 
 -- ---- one line that is answered
 
@@ -36,13 +25,6 @@ pub refused_first : {H : Type 0} (hash_of : H → List ℕ → ℕ) (s : Simulat
 refused_first hash_of s line lines fault.ReadFailed h = tt
 refused_first hash_of s line lines fault.OutOfMemory h = tt
 refused_first hash_of s line lines other h = h
-
-pub unread_refused : {H : Type 0} (hash_of : H → List ℕ → ℕ) (s : Simulated H) (lines : List (List ℕ)) (e : WireError) → IsUnread lines e → IsRefusedAt hash_of s lines (fault_of_read e)
-unread_refused hash_of s [] e h = ap fault_of_read h
-unread_refused hash_of s (line ∷ lines) Io h = tt
-unread_refused hash_of s (line ∷ lines) LineTooLong h = h
-unread_refused hash_of s (line ∷ lines) Memory h = tt
-unread_refused hash_of s (line ∷ lines) other h = absurd h
 
 -- ---- what is written
 

@@ -1,5 +1,5 @@
 -- Change lines that are to be told, one after the other.
-use Rattle.std.proofs.Common.{◌≡◌, ◌≢◌, ℕ, ◌+◌, ◌≤◌, true, false, List, [], ◌∷◌, ◌++◌, length, Option, Some, None, Ok, Err, Vec, IfSome, refl, sym, ap, ◌∙◌, append_assoc, append-nil, subst}
+use Rattle.std.proofs.Common.{◌≡◌, ◌≢◌, ℕ, ◌+◌, ◌≤◌, true, List, [], ◌∷◌, ◌++◌, length, Option, Some, None, Ok, Err, Vec, IfSome, refl, sym, ap, ◌∙◌, append_assoc, subst}
 use Rattle.std.specs.Global.{Global}
 use Rattle.std.proofs.KnownBytes.{Keeps-refl}
 use Rattle.std.proofs.lemmas.Slice.Zip.{AllZip-long}
@@ -20,14 +20,14 @@ use Rattle.cli_core.specs.Input.{lines_of}
 use Rattle.cli_core.specs.declared.faults.LineError.{LineError}
 use Rattle.cli_core.specs.declared.faults.LineError.TheVariants as line
 use Rattle.peer_core.specs.Links.{MayAnswer}
-use Rattle.cli_net.specs.Telling.{Gives, HearsChange, IsNoNews, IsUntold, IsWrong, TakesTurn}
+use Rattle.cli_net.specs.Telling.{HearsChange, IsNoNews, IsUntold, IsWrong, TakesTurn}
 use Rattle.cli_net.specs.declared.faults.AskError.{AskError}
 use Rattle.cli_net.specs.declared.faults.TellError.{TellError}
 use Rattle.cli_net.specs.declared.faults.TellError.TheVariants as tell
 
 -- ---- one line
 
--- what is wrong with a line alone is wrong with it where nobody is held, but for a member too many
+-- what is wrong with a line alone is wrong with it where no member is held, but for a member too many
 wrong : (lines : List (List ℕ)) (what : LineError) → (what ≡ line.TooManyMembers → ⊥) → IsFaultAt [] lines what → IsWrong lines what
 wrong (l ∷ ls) (line.Wire e) n h = h
 wrong (l ∷ ls) line.TooManyMembers n h = absurd (n refl)
@@ -55,7 +55,7 @@ pub unheard : (known left : Option (List ℕ)) (e : WireError) → TakesLine kno
 unheard None left e t i = tt
 unheard (Some xs) left e t i = wrong (lines_of xs) (fault_of_wire e) (of_a_line e) (unread (Some xs) left [] e (line_taken (Some xs) left (Err e) t i))
 
--- a line was read that is no change
+-- a line was read that is not a change
 pub no_change : (known left : Option (List ℕ)) (v : Vec ℕ Global) (e : WireError) → TakesLine known (Ok (Some v)) left
     → (e ≢ wire.Memory → Faults ChangeFault v.items e) → IfSome known (λ xs. HearsChange xs (Err (fault_of_wire e)) left)
 no_change None left v e t h = tt
@@ -68,29 +68,12 @@ pub a_change : (known left : Option (List ℕ)) (v : Vec ℕ Global) (c : Source
 a_change None left v c t i = tt
 a_change (Some xs) left v c t i = (line_of xs, after_line xs, t.2, lines_of-first xs t.0, subst (λ (l : List ℕ). IsChangeLine l c) t.1 i)
 
--- ---- one turn
-
-pub no_room : (known left : Option (List ℕ)) (old new : List Sourced) (number : ℕ) (c : Sourced) → number ≡ length old + 1
-    → IfSome known (λ xs. HearsChange xs (Ok (Some c)) left)
-    → IfSome known (λ xs. TakesTurn xs old (Err (tell.AtLine number line.OutOfMemory)) left new)
-no_room None left old new number c n h = tt
-no_room (Some xs) left old new number c n h = (n, subst (λ ls. IsWrong ls line.OutOfMemory) (sym h.3) tt)
-
-pub one_more : (known left : Option (List ℕ)) (old new : List Sourced) (c : Sourced) → new ≡ old ++ c ∷ []
-    → IfSome known (λ xs. HearsChange xs (Ok (Some c)) left) → IfSome known (λ xs. TakesTurn xs old (Ok true) left new)
-one_more None left old new c e h = tt
-one_more (Some xs) left old new c e h = (h.0, h.1, c, h.2, h.3, h.4, e)
-
 -- ---- all lines
 
 -- the lines read so far stand before those that are left, and are these changes
 pub record HasRead (known left : Option (List ℕ)) (changes : List Sourced) : Type 0 where
   pub is : IfSome known (λ input. (rest : List ℕ) × (before : List (List ℕ)) × (left ≡ Some rest)
       × (lines_of input ≡ before ++ lines_of rest) × AreChangeLines before changes)
-
-pub starts : (known : Option (List ℕ)) → HasRead known known []
-starts None = record { is = tt }
-starts (Some input) = record { is = (input, [], refl, refl, tt) }
 
 goes_known : (input : List ℕ) (left later : Option (List ℕ)) (old new : List Sourced)
     → (rest : List ℕ) × (before : List (List ℕ)) × (left ≡ Some rest) × (lines_of input ≡ before ++ lines_of rest) × AreChangeLines before old
@@ -110,15 +93,6 @@ pub goes : (known left later : Option (List ℕ)) (old new : List Sourced) → H
     → IfSome left (λ xs. TakesTurn xs old (Ok true) later new) → HasRead known later new
 goes None left later old new p h = record { is = tt }
 goes (Some input) left later old new p h = record { is = goes_known input left later old new p.is h }
-
-pub ends : (known left later : Option (List ℕ)) (old new : List Sourced) → HasRead known left old
-    → IfSome left (λ xs. TakesTurn xs old (Ok false) later new) → length new ≤ most_members → Gives known new
-ends None left later old new p h few = tt
-ends (Some input) left later old new p h few =
-    let (rest, before, is, lines, read) = p.is in
-    let (none, same) = rw is at h in
-    let all : lines_of input ≡ before = lines ∙ ap (λ xs. before ++ lines_of xs) none ∙ append-nil before in
-    (rw (all, same) read, few)
 
 counted : (lines : List (List ℕ)) (changes : List Sourced) → AreChangeLines lines changes → length lines ≡ length changes
 counted lines changes h = sym (AllZip-long IsChangeLine lines changes h)

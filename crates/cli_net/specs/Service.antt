@@ -31,8 +31,8 @@ use Rattle.server.specs.declared.errors.EndError.{EndError}
 use Rattle.server.specs.declared.errors.EndError.TheVariants as end
 use Rattle.server.specs.declared.servers.Server.{Server}
 use Rattle.cli_net.specs.declared.echoes.Echo.{Echo}
-use Rattle.cli_net.specs.declared.serving.ServedNode.{ServedNode}
-use Rattle.cli_net.specs.declared.serving.ServedNode.TheVariants as served
+use Rattle.cli_net.specs.declared.serving.ClosedNode.{ClosedNode}
+use Rattle.cli_net.specs.declared.serving.ClosedNode.TheVariants as served
 use Rattle.cli_net.specs.Echoes.{MayEcho}
 use Rattle.line_service.specs.declared.timeouts.Timeouts.{Timeouts}
 use Rattle.cli_core.specs.declared.words.ServeWords.{ServeWords}
@@ -156,7 +156,7 @@ pub record HasServed {H : Type 0} (Time : RoundTimes) (hash_of : H → List ℕ 
   pub ended : HasEnded Time hash_of server words.period entry.new crew node
 
 -- the same under the hash of the words: the sum of the bytes, or SHA-256's first eight
-abbrev pub ServesBy : RoundTimes → ServeWords → Timeouts → ServedNode → Type 0
+abbrev pub ServesBy : RoundTimes → ServeWords → Timeouts → ClosedNode → Type 0
 ServesBy Time words timeouts (served.Sum node) =
     let hash : SumHash = record {} in (words.sum ≡ true) × HasServed Time (λ (h : SumHash). hash_by true) any_answer hash timeouts words node
 ServesBy Time words timeouts (served.Sha256 node) =
@@ -164,7 +164,7 @@ ServesBy Time words timeouts (served.Sha256 node) =
 
 -- some node was served so with the standard timeouts
 abbrev pub ServesAsStandard : RoundTimes → ServeWords → Type 0
-ServesAsStandard Time words = (timeouts : Timeouts) × AreStandardTimeouts timeouts × (node : ServedNode) × ServesBy Time words timeouts node
+ServesAsStandard Time words = (timeouts : Timeouts) × AreStandardTimeouts timeouts × (node : ClosedNode) × ServesBy Time words timeouts node
 
 -- the server of these arguments served its last connection: all is written, the node was made so, and admitted if hosts are named, before,
 -- and was closed after

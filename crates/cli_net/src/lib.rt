@@ -26,5 +26,5 @@ pub use hints::explain_command;
 pub use looks::members_over;
 pub use owners::ask_any_over;
 pub use server::Runtime;
-pub use serving::{ServedNode, serve_run, serve_within};
+pub use serving::{ClosedNode, serve_run, serve_within};
 pub use telling::tell_over;

@@ -204,7 +204,7 @@ fn serve_by<
 
 /// A node that has served its last connection, closed, under the hash of its words.
 #[derive(Drop)]
-pub enum ServedNode {
+pub enum ClosedNode {
     /// Under the sum of the bytes.
     Sum(NodeState<SumHash>),
     /// Under SHA-256's first eight bytes.
@@ -218,7 +218,7 @@ fn serve_by_sum<R: Net<Listener = TcpListener, Stream = TcpStream> + Runtime, W:
     timeouts: Timeouts,
     words: &ServeWords,
     writer: &mut W,
-) -> Result<ServedNode, ServeError>
+) -> Result<ClosedNode, ServeError>
     requires { words.now.sum ≡ true }
     ensures served { OnOk result (Appends (W.contents writer.old) (W.contents writer.new) (service_text words.now.address)) }
     ensures left { IfErr result (λ e. LeavesService words.now.address e (W.contents writer.old) (W.contents writer.new)) }
@@ -227,7 +227,7 @@ fn serve_by_sum<R: Net<Listener = TcpListener, Stream = TcpStream> + Runtime, W:
     ensures serves { IfOk result (ServesBy R.times words.now timeouts) }
 {
     match serve_by(rt, alloc, SumHash, timeouts, words, writer) {
-        Ok(node) => Ok(ServedNode::Sum(node)),
+        Ok(node) => Ok(ClosedNode::Sum(node)),
         Err(fault) => Err(fault),
     }
 }
@@ -239,7 +239,7 @@ fn serve_by_sha256<R: Net<Listener = TcpListener, Stream = TcpStream> + Runtime,
     timeouts: Timeouts,
     words: &ServeWords,
     writer: &mut W,
-) -> Result<ServedNode, ServeError>
+) -> Result<ClosedNode, ServeError>
     requires { words.now.sum ≡ false }
     ensures served { OnOk result (Appends (W.contents writer.old) (W.contents writer.new) (service_text words.now.address)) }
     ensures left { IfErr result (λ e. LeavesService words.now.address e (W.contents writer.old) (W.contents writer.new)) }
@@ -248,7 +248,7 @@ fn serve_by_sha256<R: Net<Listener = TcpListener, Stream = TcpStream> + Runtime,
     ensures serves { IfOk result (ServesBy R.times words.now timeouts) }
 {
     match serve_by(rt, alloc, Sha256Hash, timeouts, words, writer) {
-        Ok(node) => Ok(ServedNode::Sha256(node)),
+        Ok(node) => Ok(ClosedNode::Sha256(node)),
         Err(fault) => Err(fault),
     }
 }
@@ -276,7 +276,7 @@ pub fn serve_within<R: Net<Listener = TcpListener, Stream = TcpStream> + Runtime
     timeouts: Timeouts,
     words: &ServeWords,
     writer: &mut W,
-) -> Result<ServedNode, ServeError>
+) -> Result<ClosedNode, ServeError>
     ensures served { OnOk result (Appends (W.contents writer.old) (W.contents writer.new) (service_text words.now.address)) }
     ensures left { IfErr result (λ e. LeavesService words.now.address e (W.contents writer.old) (W.contents writer.new)) }
     ensures named { result ≡ Err ServeError.NoneJoined → words.now.hosts.items ≢ [] }

@@ -10,7 +10,7 @@ use std::process::Abort;
 use std::thread::JoinHandle;
 use std::time::{Clock, Duration};
 use std::{io, thread};
-use transport::{Limits, TcpLink, send_line, socket_address};
+use transport::{Limits, TcpLink, send_owned_line, socket_address};
 use wire_json::{Content, Field, Message, WireError, encode, read_line};
 
 /// A ping that tells of 10.0.0.9:1.
@@ -439,8 +439,7 @@ static LENGTHS: [(usize, usize); 5] = [
 #[test]
 fn a_line_and_its_newline_are_one_write(rt: HostRuntime) {
     for &(length, bytes) in &LENGTHS {
-        let line = letters(&rt, length);
-        let tally = made!(&rt, send_line(rt.alloc(), EMPTY, line.as_slice()));
+        let tally = made!(&rt, send_owned_line(EMPTY, letters(&rt, length)));
         assert!(&rt; tally.writes == 1 && tally.bytes == bytes);
     }
 }

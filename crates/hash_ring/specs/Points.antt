@@ -1,17 +1,28 @@
 -- The points of servers, and the owners of a key. No ring is in it. A hash is a function from bytes to numbers.
 -- A server's points on a circle, and a key's owner the first of them clockwise: ringpop-go, package hashring. That ties go to the lesser
 -- address, and that the next owners are the servers by distance, is this project's.
-use Rattle.std.specs.Prelude.{◌≡◌, ◌⊎◌, ◌≤◌, ℕ, zero, suc, ◌+◌, ◌*◌, ◌-◌, ◌%◌, ◌^◌, ◌<◌, List, ◌++◌, map, min, Option}
+use Rattle.std.specs.Prelude.{◌≡◌, ◌⊎◌, ◌≤◌, ℕ, zero, suc, ◌+◌, ◌*◌, ◌-◌, ◌%◌, ◌^◌, ◌<◌, List, ◌++◌, map, min, take, Option}
+use Rattle.std.specs.Int.{w64, from_be_bytes}
 use Rattle.std.specs.List.{Contains, flat_map, range_with_len, slice_get}
 use Rattle.std.specs.Ordering.{nat_cmp, ordering_then}
 use Rattle.std.specs.declared.cmp.Ordering.{Ordering}
+use Rattle.sha2.specs.Sha256.{sha256}
 use Rattle.change_core.specs.declared.addresses.Address.{Address}
 use Rattle.change_core.specs.Address.{address_text}
 use Rattle.change_core.specs.Numeral.{number_text}
 use Rattle.change_core.specs.Ascending.{ascending, In}
+use Rattle.hash_ring.specs.declared.hash.Sha256Hash.{Sha256Hash}
 use Rattle.hash_ring.specs.declared.points.Point.{Point}
 use Rattle.hash_ring.specs.declared.servers.Server.{Server}
 use Rattle.hash_ring.specs.Servers.{shares, addresses_of}
+
+-- the first eight bytes of the SHA-256 as a number, the high byte first
+abbrev pub hash_number : List ℕ → ℕ
+hash_number bytes = from_be_bytes w64 (take 8 (sha256 bytes))
+
+-- the hash of a ring by SHA-256
+abbrev pub hash_of : Sha256Hash → List ℕ → ℕ
+hash_of hash = hash_number
 
 -- the maximum of points that a server has for each unit of its weight
 abbrev pub max_replicas : ℕ

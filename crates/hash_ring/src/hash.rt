@@ -1,7 +1,6 @@
 //! Hash functions for keys and points.
-ghost use Rattle.std.specs.Prelude.{◌≡◌, ℕ, List, ◌%◌, ◌^◌, take, sum};
-ghost use Rattle.std.specs.Int.{w64, from_be_bytes};
-ghost use Rattle.sha2.specs.Sha256.{sha256};
+ghost use Rattle.std.specs.Prelude.{◌≡◌, ℕ, List, ◌%◌, ◌^◌, sum};
+ghost use Rattle.hash_ring.specs.Points.{hash_number};
 
 use sha2::{Digest, Sha256};
 
@@ -21,7 +20,7 @@ pub trait PointHash: Copy {
 pub struct Sha256Hash;
 
 impl PointHash for Sha256Hash {
-    ghost hash_of = { λ _ bytes. from_be_bytes w64 (take 8 (sha256 bytes)) };
+    ghost hash_of = { λ _. hash_number };
 
     fn hash(&self, bytes: &[u8]) -> u64 {
         let [a, b, c, d, e, f, g, h, ..] = Sha256::digest(bytes);

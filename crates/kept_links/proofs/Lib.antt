@@ -1,2 +1,1 @@
-mod Exchanged
 mod Endings

@@ -19,15 +19,15 @@ use Rattle.cluster_names.specs.Lines.{IsOwnLine, line_sent}
 use Rattle.kept_links.specs.Marks.{marked_text}
 use Rattle.kept_links.specs.declared.kept_links.KeptLink.{KeptLink}
 
--- a content is a Forward's, whose connection is kept
-abbrev pub is_request : Content → Bool
-is_request (content.Forward keys body) = true
-is_request other = false
+-- whether a content is a Forward's: a request of keys
+abbrev pub is_forward : Content → Bool
+is_forward (content.Forward keys body) = true
+is_forward other = false
 
 -- whether the connection of a content is kept by a link with such a pool: a Forward's, if there is a pool
 abbrev pub is_kept : {P : Type 0} → Option P → Content → Bool
 is_kept None content = false
-is_kept (Some pool) content = is_request content
+is_kept (Some pool) content = is_forward content
 
 -- a line is that of a message, as a node of this cluster sends it; it may have the mark if its connection is to be kept
 abbrev pub IsSentAs : Option (List ℕ) → Bool → Message → List ℕ → Type 0

@@ -3,7 +3,7 @@ ghost use Rattle.std.specs.Prelude.{◌≡◌, ◌≢◌, ◌<◌, ◌-◌, ◌^
 ghost use Rattle.transport.specs.Deadlines.{limit_of, stream_of};
 ghost use Rattle.transport.specs.Limits.{limit_for};
 ghost use Rattle.transport.specs.Sockets.{IsTooLong};
-ghost use Rattle.kept_links.specs.Exchanges.{CallsKept, IsAskedAs, IsMessageOf, IsSameBut, IsSentAs, cluster_over, failures_over, is_kept, is_request, keeps_over, limits_over, net_over, spares_over, Takes};
+ghost use Rattle.kept_links.specs.Exchanges.{CallsKept, IsAskedAs, IsMessageOf, IsSameBut, IsSentAs, cluster_over, failures_over, is_kept, is_forward, keeps_over, limits_over, net_over, spares_over, Takes};
 ghost use Rattle.kept_links.specs.Marks.{inner_of};
 ghost use Rattle.peer_core.specs.Links.{IsNamed};
 ghost use Rattle.wire_json.specs.Input.{line_of};
@@ -65,8 +65,8 @@ fn get<S: Read + Drop>(
 }
 
 /// Returns whether a message is a Forward.
-fn is_request(message: &Message) -> bool
-    ensures { result ≡ is_request message.now.content }
+fn is_forward(message: &Message) -> bool
+    ensures { result ≡ is_forward message.now.content }
 {
     matches!(&message.content, Content::Forward(_, _))
 }
@@ -162,7 +162,7 @@ impl<'a, N, C, P> KeptLink<'a, N, C, P> {
         ensures { result ≡ keeps_over self.now message.now.content }
     {
         match self.pool {
-            Some(_) => is_request(message),
+            Some(_) => is_forward(message),
             None => false,
         }
     }

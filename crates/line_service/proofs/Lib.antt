@@ -1,3 +1,4 @@
 pub mod Answered
 pub mod Heard
 pub mod LineTexts
+pub mod Parts

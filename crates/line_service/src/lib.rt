@@ -2,6 +2,7 @@
 #![tactic(auto)]
 
 mod answering;
+mod answers;
 mod clocks;
 mod inputs;
 mod ports;

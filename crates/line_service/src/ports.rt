@@ -3,6 +3,7 @@ ghost use Rattle.std.specs.Prelude.{◌≡◌, ◌⊎◌, ◌≤◌, ◌/◌, �
 ghost use Rattle.std.specs.Io.KnownBytes.{Consumes};
 ghost use Rattle.line_service.specs.Ports.{is_over, is_over_with};
 
+use crate::answers::Answer;
 use crate::stopwatches::{Stopwatch, millis_of};
 use crossbeam_channel::Receiver;
 use message_core::WireError;
@@ -30,6 +31,7 @@ const BETWEEN_SWEEPS: u64 = 100;
 /// The bytes that came over a connection, which holds no place any more.
 #[derive(Drop)]
 pub struct Arrival {
+    /// The connection, whose reads and writes do not wait.
     pub stream: TcpStream,
     /// The bytes of the line; `Io` if it was not whole in time, or the stream failed, and `Memory` if an allocation failed.
     pub line: Result<Vec<u8>, WireError>,
@@ -42,7 +44,7 @@ pub struct Arrival {
 pub enum Turn {
     /// What came over a connection is to be answered.
     Came(Arrival),
-    /// The rest of a line is awaited.
+    /// Nothing is to be answered: the rest of a line is awaited, or a part of an answer was written.
     Parked,
     /// Connections were watched and accepted, or the system let none be accepted.
     Watched(io::Result<bool>),
@@ -50,12 +52,23 @@ pub enum Turn {
     Closed,
 }
 
+/// What is kept of a connection that waits.
+#[derive(Drop)]
+enum Kept {
+    /// The line so far.
+    Line(Vec<u8>),
+    /// The answer, of which a part was not taken yet.
+    Answer(Answer),
+}
+
 /// The port of a node. The threads that answer make its turns: one of them at a time watches the connections, and the others wait until it has one.
 #[derive(Drop)]
 pub struct Port {
-    reactor: Mutex<Reactor<Vec<u8>>>,
-    lot: Arc<Lot<Vec<u8>>, Global>,
-    ready: Receiver<Connection<Vec<u8>>>,
+    reactor: Mutex<Reactor<Kept>>,
+    lot: Arc<Lot<Kept>, Global>,
+    ready: Receiver<Connection<Kept>>,
+    /// The milliseconds for which a line is awaited, and an answer taken.
+    limit: u64,
 }
 
 /// Returns how many connections may wait at a node's port where these descriptors are left: half of them, and at most 1,000.
@@ -154,7 +167,7 @@ fn read_all<S: Read>(
 }
 
 impl Port {
-    /// Makes the port of a listener, with these places, whose limit is set. A line has to be whole within the time limit.
+    /// Makes the port of a listener, with these places, whose limit is set. A line has to be whole within the time limit, and an answer taken.
     ///
     /// # Errors
     ///
@@ -167,9 +180,10 @@ impl Port {
         places: Arc<Places, Global>,
         limit: Duration,
     ) -> io::Result<Self> {
+        let limit = millis_of(limit);
         let timing = Timing {
             patience: None,
-            idle: millis_of(limit),
+            idle: limit,
             between_sweeps: BETWEEN_SWEEPS,
             hands_over_late: true,
         };
@@ -179,6 +193,7 @@ impl Port {
             reactor: Mutex::new(reactor),
             lot,
             ready,
+            limit,
         })
     }
 
@@ -205,26 +220,32 @@ impl Port {
     }
 
     /// Closes the port, once a thread makes a turn: no connection is accepted any more, and those whose line is not whole are closed. What came before is
-    /// still answered.
+    /// still answered, and answers are written until their time is up.
     pub fn close(&self) {
         self.lot.end();
     }
 
-    /// Returns a connection of a port that closes, over which something came; None if there is none: then all others are closed.
+    /// Returns a connection of a port that closes which is ready. If there is none, closes all that wait for their line, and watches those whose answers wait for
+    /// a tenth of a second.
     fn last_ready<R: Wait>(
         &self,
         rt: &R,
-        reactor: &mut Reactor<Vec<u8>>,
+        reactor: &mut Reactor<Kept>,
         now: u64,
-    ) -> Option<Connection<Vec<u8>>> {
+    ) -> Result<Connection<Kept>, Turn> {
         reactor.close();
-        reactor.wait(Duration::from_millis(0));
-        let _none = reactor.turn(rt, now);
-        let ready = self.ready.try_recv(rt);
-        if ready.is_err() {
+        for limit in [0, BETWEEN_SWEEPS] {
+            reactor.wait(Duration::from_millis(limit));
+            let _none = reactor.turn(rt, now);
+            if let Ok(connection) = self.ready.try_recv(rt) {
+                return Ok(connection);
+            }
             reactor.close_idle(rt);
+            if self.lot.waiting(rt) == 0 {
+                return Err(Turn::Closed);
+            }
         }
-        ready.ok()
+        Err(Turn::Parked)
     }
 
     /// Returns a connection that is ready. If there is none, watches them, once no other thread does, until there may be one or a tenth of a second
@@ -233,14 +254,14 @@ impl Port {
         &self,
         rt: &R,
         stopwatch: &Stopwatch,
-    ) -> Result<Connection<Vec<u8>>, Turn> {
+    ) -> Result<Connection<Kept>, Turn> {
         let mut reactor = self.reactor.lock(rt);
         if let Ok(connection) = self.ready.try_recv(rt) {
             return Ok(connection);
         }
         if self.lot.is_ending() {
             let now = stopwatch.moment(rt).number();
-            return self.last_ready(rt, &mut *reactor, now).ok_or(Turn::Closed);
+            return self.last_ready(rt, &mut *reactor, now);
         }
         reactor.wait(Duration::from_millis(BETWEEN_SWEEPS));
         let watched = reactor.turn(rt, stopwatch.moment(rt).number());
@@ -250,11 +271,6 @@ impl Port {
     /// Gives back what came over a connection, which holds its place no more.
     fn came(&self, stream: TcpStream, line: Result<Vec<u8>, WireError>, until: u64) -> Turn {
         self.lot.release();
-        let line = if stream.set_nonblocking(false).is_ok() {
-            line
-        } else {
-            Err(WireError::Io)
-        };
         Turn::Came(Arrival {
             stream,
             line,
@@ -262,29 +278,74 @@ impl Port {
         })
     }
 
-    /// Reads what came over a connection. It waits for the rest if its line is not whole at this millisecond, unless its time is up or the port closes.
+    /// Writes what a connection takes of its answer. It waits to take the rest if one is left at this millisecond, unless its time is up.
+    fn write<R: Wait>(&self, rt: &R, now: u64, stream: TcpStream, mut answer: Answer, until: u64) {
+        match answer.write_on(&mut &stream) {
+            Ok(false) if now < until => {
+                let waiting = Connection {
+                    stream,
+                    kept: Some(Kept::Answer(answer)),
+                    is_full: true,
+                    until,
+                };
+                self.lot.park(rt, waiting, now);
+            }
+            _ => self.lot.close(stream),
+        }
+    }
+
+    /// Answers over a connection that came, by a line and its newline, and does not wait for that: what is not taken immediately is written by later turns,
+    /// within the time limit from now on. Until then the connection holds a place; if none is free, the connection that has waited longest is closed for it.
+    /// The connection is closed once its answer is taken or the time is up, and if it fails, if there is no place, or if out of memory.
+    pub fn answer<R: Wait + Clock>(
+        &self,
+        rt: &R,
+        stopwatch: &Stopwatch,
+        stream: TcpStream,
+        line: Vec<u8>,
+    ) {
+        let Some(mut answer) = Answer::new(line) else {
+            return;
+        };
+        if let Ok(false) = answer.write_on(&mut &stream) {
+            let now = stopwatch.moment(rt).number();
+            if self.lot.take_place(rt, now) {
+                self.write(rt, now, stream, answer, now.saturating_add(self.limit));
+            }
+        }
+    }
+
+    /// Reads what came over a connection, or writes on its answer. It waits for the rest of its line if that is not whole at this millisecond, unless its
+    /// time is up or the port closes.
     fn visit<R: Wait>(
         &self,
         rt: &R,
         alloc: Global,
         now: u64,
         buffer: &mut [u8],
-        visited: Connection<Vec<u8>>,
+        visited: Connection<Kept>,
     ) -> Turn {
         let Connection {
             stream,
             kept,
-            is_full,
             until,
+            ..
         } = visited;
-        let mut line = kept.unwrap_or(Vec::new(alloc));
+        let mut line = match kept {
+            Some(Kept::Answer(answer)) => {
+                self.write(rt, now, stream, answer, until);
+                return Turn::Parked;
+            }
+            Some(Kept::Line(line)) => line,
+            None => Vec::new(alloc),
+        };
         match read_all(&mut &stream, buffer, &mut line) {
             Ok(true) => self.came(stream, Ok(line), until),
             Ok(false) if now < until && !self.lot.is_ending() => {
                 let waiting = Connection {
                     stream,
-                    kept: Some(line),
-                    is_full,
+                    kept: Some(Kept::Line(line)),
+                    is_full: false,
                     until,
                 };
                 match self.lot.try_park(rt, waiting, now) {

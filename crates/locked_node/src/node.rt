@@ -63,8 +63,9 @@ impl<H: PointHash> LockedNode<H> {
         }
     }
 
-    /// Shares a node: returns it with the pass of its rounds, and, before that in the order of their numbers, a pass for
-    /// each of `workers` workers, fewer than 1,024. Each may make 4,294,967,295 calls.
+    /// Makes a node that threads share. Returns it with the pass of the thread that makes its rounds, and a pass for each of `workers`
+    /// worker threads, fewer than 1,024. The workers' passes are ascending by number, and that of the rounds has the greatest number. Each
+    /// pass may make 4,294,967,295 calls.
     ///
     /// # Errors
     ///

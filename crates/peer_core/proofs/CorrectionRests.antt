@@ -213,10 +213,6 @@ ended_as round (Err e) same = tt
 -- rounds with a correction behind
 
 module _ {H : Type 0} (Came : MayAnswer) (now : ℕ) where
-  nothing_behind : (o : Option Address) (first : List (Act H)) → RestsBehind Came now o first []
-  nothing_behind None first = refl
-  nothing_behind (Some a) first = tt
-
   -- A part of a round, and behind it the correction of its target, whatever came before.
   record Behind (P : Part H Round) (r : Result Round ClusterError) (acts : List (Act H)) : Type 0 where
     round : Result Round ClusterError

@@ -13,8 +13,6 @@ use Rattle.node_core.specs.declared.errors.NodeError.TheVariants as node
 use Rattle.node_core.specs.declared.events.Event.TheVariants as call
 use Rattle.node_core.specs.declared.events.NodeOutcome.{NodeOutcome}
 use Rattle.node_core.specs.declared.events.NodeOutcome.TheVariants as outcome
-use Rattle.node_core.specs.declared.events.Received.{Received}
-use Rattle.node_core.specs.declared.events.Received.TheVariants as received
 use Rattle.node_core.specs.declared.events.Reply.TheVariants as reply
 use Rattle.node_core.specs.Viewing.{Viewed}
 use Rattle.peer_core.specs.declared.errors.ClusterError.{ClusterError}
@@ -31,7 +29,7 @@ use Rattle.peer_core.specs.Joining.{HearsHost}
 use Rattle.peer_core.specs.Links.{Went, word_on}
 use Rattle.peer_core.specs.Parts.{Part, Calls, Tries}
 use Rattle.peer_core.specs.Rounds.{Acknowledges, Expires, FailsFrom, FailsOne, HearsHelper, LooksOn, Takes, TellsWord, said_by, waited_for}
-use Rattle.peer_core.specs.Serving.{Answers, Decides, FailsUnhandled, Forwards, GivesMade, Gossips, Receives, Says, Seeks, TellsRequester, Views, message_by, reason_of}
+use Rattle.peer_core.specs.Serving.{Decides, FailsUnhandled, Forwards, GivesMade, Receives, Says, Seeks, TellsRequester, Views, message_by}
 use Rattle.peer_core.proofs.Exchanges.{Hushes, Silent, hushes_calls, hushes_fails, hushes_gives, hushes_next, hushes_tries, hushes_until, sendings_count, sends_silent, sends_then, silent_none, silent_one}
 
 module _ {H : Type 0} where
@@ -97,16 +95,6 @@ module _ {H : Type 0} where
 
   pub hushes_receives : (message : Message) (now : ℕ) → Hushes {H = H} (Receives message now)
   hushes_receives message now = hushes_calls (call.Receive message now) reply.Receive (λ a. refl)
-
-  hushes_answers : (r : Received) → Hushes {H = H} (Answers r)
-  hushes_answers (received.Answer taken made) = hushes_gives made
-  hushes_answers (received.NoAnswer taken) = hushes_says (Refused reason.Memory)
-  hushes_answers (received.Stopped stopped) = hushes_says (Refused (reason_of stopped.cause))
-  hushes_answers (received.Done taken) = record { silent = λ r acts h. absurd h }
-  hushes_answers received.NotGossip = record { silent = λ r acts h. absurd h }
-
-  pub hushes_gossips : (message : Message) (now : ℕ) → Hushes {H = H} (Gossips message now)
-  hushes_gossips message now = hushes_next (hushes_receives message now) hushes_answers
 
   pub hushes_seeks : (now : ℕ) (what : Heard) → Hushes {H = H} (Seeks now what)
   hushes_seeks now (heard.Answer ack) = hushes_next (hushes_receives ack now) (λ r. hushes_gives (Some true))

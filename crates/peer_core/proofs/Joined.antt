@@ -29,9 +29,6 @@ counted_more true rest = sum_by-cons (λ (j : Bool). cond j 1 0) true rest
 counted_more false rest = sum_by-cons (λ (j : Bool). cond j 1 0) false rest
 
 module _ {H : Type 0} where
-  taken : Message → ℕ → Received → Act H
-  taken m now r = did (call.Receive m now) (reply.Receive r)
-
   takings-append : (xs ys : List (Act H)) → count_by is_taking (xs ++ ys) ≡ count_by is_taking xs + count_by is_taking ys
   takings-append xs ys = sum_by-append (λ (act : Act H). cond (is_taking act) 1 0) xs ys
 

@@ -50,10 +50,6 @@ not_memory : (l : LockError) → error.Memory ≡ error_of_lock l → ⊥
 not_memory lock.ForeignPass e = cc
 not_memory lock.PassSpent e = cc
 
-not_none : (l : LockError) → error.NoneJoined ≡ error_of_lock l → ⊥
-not_none lock.ForeignPass e = cc
-not_none lock.PassSpent e = cc
-
 module _ {H : Type 0} where
   bars_lock : (locked : LockedNode H) (p : NodePass H) (l : LockError) → Refuses locked p l → Bars locked p (error_of_lock l)
   bars_lock locked p l h = λ k e. subst (λ (x : LockError). Refuses locked p x) (one_lock l k e) h
@@ -209,15 +205,12 @@ module _ {H : Type 0} where
   pub does_fail_memory : {A : Type 0} (locked : LockedNode H) (p : NodePass H) → Does {A = A} locked (Fails error.Memory) (Err error.Memory) p p
   does_fail_memory locked p = does_fail locked p error.Memory (λ l e. absurd (not_memory l e))
 
-  pub does_fail_none : {A : Type 0} (locked : LockedNode H) (p : NodePass H) → Does {A = A} locked (Fails error.NoneJoined) (Err error.NoneJoined) p p
-  does_fail_none locked p = does_fail locked p error.NoneJoined (λ l e. absurd (not_none l e))
-
   -- a step after which it goes on
   pub leads_turn : {S X A : Type 0} {locked : LockedNode H} {p q : NodePass H} (Step : S → Part H X) (way : X → Turn S A) (s t : S) (x : X)
       → Does locked (Step s) (Ok x) p q → way x ≡ onward t → Leads locked (Until Step way s) (Until Step way t) p q
   leads_turn Step way s t x d e = record { makes = makes_as (Leaves (Until Step way s) (Until Step way t)) (λ acts h r rest k. Until.goes_on x t h e k) d.makes }
 
-  -- a step that comes to an end, or is refused
+  -- a step that is completed, or is refused
   pub does_end : {S X A : Type 0} {locked : LockedNode H} {p q : NodePass H} (Step : S → Part H X) (way : X → Turn S A) (s : S) (x : X) (a : A)
       → Does locked (Step s) (Ok x) p q → way x ≡ ended a → Does locked (Until Step way s) (Ok a) p q
   does_end Step way s x a d e = record { makes = makes_as (Until Step way s (Ok a)) (λ acts h. Until.ends x a h e) d.makes; barred = tt }

@@ -35,3 +35,4 @@ pub use member_errors::{CallError, JoinError, LeaveError, RejoinError, RequestEr
 pub use members::Member;
 pub use rounds::Round;
 pub use serving::{refuse, serve_one};
+pub use steps::{allowed, let_in};

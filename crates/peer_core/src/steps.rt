@@ -17,8 +17,12 @@ use node_core::{ChangeList, NodeError, NodeLost, NodeOutcome, Received};
 use std::sync::Wait;
 use turn_lock::LockError;
 
-/// Returns the answer, or the error of the lock.
-pub(crate) fn let_in<T>(answer: Result<T, LockError>) -> Result<T, ClusterError>
+/// Returns the answer to a call of a node.
+///
+/// # Errors
+///
+/// - `ForeignPass`, `PassSpent`: the lock refused the call.
+pub fn let_in<T>(answer: Result<T, LockError>) -> Result<T, ClusterError>
     ensures { result ≡ let_in answer }
 {
     match answer {
@@ -27,8 +31,13 @@ pub(crate) fn let_in<T>(answer: Result<T, LockError>) -> Result<T, ClusterError>
     }
 }
 
-/// Returns the answer, or the error of the lock or of the node.
-fn allowed<T>(answer: Result<Result<T, NodeError>, LockError>) -> Result<T, ClusterError>
+/// Returns the answer to a call that a node may refuse.
+///
+/// # Errors
+///
+/// - `ForeignPass`, `PassSpent`: the lock refused the call.
+/// - The node's error.
+pub fn allowed<T>(answer: Result<Result<T, NodeError>, LockError>) -> Result<T, ClusterError>
     ensures { result ≡ allowed answer }
 {
     match answer {

@@ -47,15 +47,15 @@ pub struct Lot<K> {
     registry: Registry,
     waker: Waker,
     places: Arc<Places, Global>,
-    /// Whether the reactor waits for a place.
-    is_full: AtomicBool,
+    /// The milliseconds for which a connection waits until it may be closed for another.
+    least_wait: u64,
     is_ending: AtomicBool,
 }
 
-/// Returns the key of the connection that has waited longest; None if none waits.
-fn longest_parked<K>(parked: &Slab<Parked<K>>) -> Option<usize> {
+/// Returns the key of the connection that has waited longest, and since this millisecond at least; None if there is none.
+fn longest_parked<K>(parked: &Slab<Parked<K>>, latest: u64) -> Option<usize> {
     let mut longest = None;
-    let mut least = u64::MAX;
+    let mut least = latest.saturating_add(1);
     for (key, it) in parked.iter() {
         if it.since < least {
             least = it.since;
@@ -66,12 +66,17 @@ fn longest_parked<K>(parked: &Slab<Parked<K>>) -> Option<usize> {
 }
 
 impl<K: Drop> Lot<K> {
-    /// Makes the lot of a poll, with these places.
+    /// Makes the lot of a poll, with these places, in which a connection waits for these milliseconds until it may be closed for another.
     ///
     /// # Errors
     ///
     /// - The error of the system, which gave no descriptor.
-    pub(crate) fn new(alloc: Global, poll: &Poll, places: Arc<Places, Global>) -> io::Result<Self> {
+    pub(crate) fn new(
+        alloc: Global,
+        poll: &Poll,
+        places: Arc<Places, Global>,
+        least_wait: u64,
+    ) -> io::Result<Self> {
         let slots = Slots {
             parked: Slab::new(alloc),
             is_closed: false,
@@ -81,7 +86,7 @@ impl<K: Drop> Lot<K> {
             registry: poll.registry().try_clone()?,
             waker: Waker::new(poll.registry(), WAKER)?,
             places,
-            is_full: AtomicBool::new(false),
+            least_wait,
             is_ending: AtomicBool::new(false),
         })
     }
@@ -113,7 +118,7 @@ impl<K: Drop> Lot<K> {
             return;
         }
         self.places.free(count);
-        if self.is_full.swap(false, Ordering::SeqCst) || self.is_ending() {
+        if self.places.take_wish() || self.is_ending() {
             let _woken = self.waker.wake();
         }
     }
@@ -137,31 +142,12 @@ impl<K: Drop> Lot<K> {
         }
     }
 
-    /// Parks a connection, as [`park`](Lot::park) does.
+    /// Parks a connection in a slot, as [`park`](Lot::park) does.
     ///
     /// # Errors
     ///
     /// - The connection, where `park` closes it.
     pub fn try_park<R: Wait>(
-        &self,
-        rt: &R,
-        connection: Connection<K>,
-        now: u64,
-    ) -> Result<(), Connection<K>> {
-        self.hold(rt, connection, now)?;
-        self.call_if_full();
-        Ok(())
-    }
-
-    /// Wakes the reactor if it waits for a place, since a connection can be closed for another now.
-    fn call_if_full(&self) {
-        if self.is_full.swap(false, Ordering::SeqCst) {
-            let _woken = self.waker.wake();
-        }
-    }
-
-    /// Holds a connection in a slot, or gives it back.
-    fn hold<R: Wait>(
         &self,
         rt: &R,
         connection: Connection<K>,
@@ -241,10 +227,10 @@ impl<K: Drop> Lot<K> {
         self.free(before.saturating_sub(after));
     }
 
-    /// Closes the connection that has waited longest. Returns whether there was one.
-    pub(crate) fn close_longest<R: Wait>(&self, rt: &R) -> bool {
+    /// Closes the connection that has waited longest until this millisecond. Returns whether one has for long enough.
+    pub(crate) fn close_longest<R: Wait>(&self, rt: &R, now: u64) -> bool {
         let mut slots = self.slots.lock(rt);
-        let Some(key) = longest_parked(&slots.parked) else {
+        let Some(key) = longest_parked(&slots.parked, now.saturating_sub(self.least_wait)) else {
             return false;
         };
         let longest = slots.parked.try_remove(key);
@@ -256,15 +242,30 @@ impl<K: Drop> Lot<K> {
         longest.is_some()
     }
 
-    /// Returns whether another connection may be accepted: a place is free, or a connection waits, which is closed for it. If not, the reactor
-    /// is woken once one may.
-    pub(crate) fn has_room<R: Wait>(&self, rt: &R) -> bool {
-        if self.places.has_free() || self.waiting(rt) > 0 {
-            return true;
+    /// Takes a place for a connection at this millisecond. If none is free, the connection that has waited longest is closed for it, if it has for
+    /// long enough. Returns whether there was one.
+    pub fn take_place<R: Wait>(&self, rt: &R, now: u64) -> bool {
+        self.places.take() || self.close_longest(rt, now) && self.places.take()
+    }
+
+    /// Returns whether another connection may be accepted at this millisecond: a place is free, or one waits that can be closed for it.
+    pub(crate) fn may_admit<R: Wait>(&self, rt: &R, now: u64) -> bool {
+        let latest = now.saturating_sub(self.least_wait);
+        self.places.has_free() || longest_parked(&self.slots.lock(rt).parked, latest).is_some()
+    }
+
+    /// Returns whether another connection may be accepted at this millisecond. If not, a place is wanted from now on: the reactor is woken once one is free.
+    pub(crate) fn has_room<R: Wait>(&self, rt: &R, now: u64) -> bool {
+        let mut has_room = self.may_admit(rt, now);
+        if !has_room {
+            self.places.want();
+            // (once more, since what became free before did not wake it)
+            has_room = self.may_admit(rt, now);
         }
-        self.is_full.store(true, Ordering::SeqCst);
-        // (once more, since what became free or was parked before did not wake it)
-        self.places.has_free() || self.waiting(rt) > 0
+        if has_room {
+            let _wish = self.places.take_wish();
+        }
+        has_room
     }
 
     /// Closes the connections that wait for something to read, and each that is parked for that from now on.

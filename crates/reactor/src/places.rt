@@ -11,6 +11,8 @@ pub struct Places {
     evicted: AtomicU64,
     failures: AtomicU64,
     is_failing: AtomicBool,
+    /// Whether the reactor waits for a place.
+    is_wanted: AtomicBool,
 }
 
 impl Places {
@@ -22,6 +24,7 @@ impl Places {
             evicted: AtomicU64::new(0),
             failures: AtomicU64::new(0),
             is_failing: AtomicBool::new(false),
+            is_wanted: AtomicBool::new(false),
         }
     }
 
@@ -55,14 +58,38 @@ impl Places {
         self.is_failing.load(Ordering::SeqCst)
     }
 
+    /// Returns whether none is free for a connection that waits to be accepted, and no other waits that could be closed for it.
+    pub fn is_wanted(&self) -> bool {
+        self.is_wanted.load(Ordering::SeqCst)
+    }
+
+    /// Notes that the reactor waits for a place.
+    pub(crate) fn want(&self) {
+        self.is_wanted.store(true, Ordering::SeqCst);
+    }
+
+    /// Returns whether the reactor waits for a place, and notes that it is woken.
+    pub(crate) fn take_wish(&self) -> bool {
+        self.is_wanted.swap(false, Ordering::SeqCst)
+    }
+
     /// Returns whether one is free.
     pub(crate) fn has_free(&self) -> bool {
         self.open() < self.limit()
     }
 
-    /// Counts a connection that was accepted.
-    pub(crate) fn occupy(&self) {
-        self.open.fetch_add(1, Ordering::SeqCst);
+    /// Takes one for a connection. Returns whether one was free.
+    pub(crate) fn take(&self) -> bool {
+        let (order, limit) = (Ordering::SeqCst, self.limit());
+        self.open
+            .fetch_update(order, order, |open| {
+                if open < limit {
+                    open.checked_add(1)
+                } else {
+                    None
+                }
+            })
+            .is_ok()
     }
 
     /// Counts connections that were closed.

@@ -1,10 +1,8 @@
 //! The reactor: the part of it that its thread has.
-ghost use Rattle.std.specs.Prelude.{◌≡◌};
-ghost use Rattle.reactor.specs.Shortages.{is_short};
-ghost use Rattle.std.specs.IoError.{raw_os_error};
-
+use crate::arrivals::{Arrived, look_at};
 use crate::lots::{Connection, Lot, WAKER};
 use crate::places::Places;
+use crate::shortages::is_short;
 use crossbeam_channel::{Receiver, Sender, bounded};
 use mio::unix::SourceFd;
 use mio::{Events, Interest, Poll, Token};
@@ -22,25 +20,17 @@ const LISTENER: Token = Token(usize::MAX - 1);
 /// The most events, and the most connections accepted, of one turn.
 const MAX_EVENTS: usize = 256;
 
-/// The milliseconds after which it accepts again where that failed.
-const BETWEEN_FAILURES: u64 = 100;
+/// The milliseconds after which it accepts again where that failed, or where there was no place.
+const BETWEEN_TRIES: u64 = 100;
 
-/// The system's error number where it is out of memory.
-const ENOMEM: i32 = 12;
-
-/// The system's error number where it is out of descriptors.
-const ENFILE: i32 = 23;
-
-/// The system's error number where this process is out of descriptors.
-const EMFILE: i32 = 24;
-
-/// The system's error number where it is out of buffers.
-const ENOBUFS: i32 = 105;
+/// The milliseconds for which a connection waits until it may be closed for another, if workers wait for it: its client may be about to send.
+const LEAST_WAIT: u64 = 100;
 
 /// The time limits of connections.
 #[derive(Clone, Copy, Debug)]
 pub struct Timing {
-    /// For how long a read or a write of a worker waits; None: it does not wait.
+    /// For how long a read or a write of a worker waits; None: it does not wait. If it does, a connection is closed for another only after
+    /// a tenth of a second.
     pub patience: Option<Duration>,
     /// The milliseconds for which a connection may send nothing at first.
     pub idle: u64,
@@ -73,16 +63,6 @@ fn no_memory() -> io::Error {
     io::Error::from(ErrorKind::OutOfMemory)
 }
 
-/// Returns whether an error says that descriptors or memory ran out, which a connection that is closed gives back.
-fn is_short(error: &io::Error) -> bool
-    ensures { result ≡ is_short (raw_os_error error.now) }
-{
-    match error.raw_os_error() {
-        Some(code) => code == ENOMEM || code == ENFILE || code == EMFILE || code == ENOBUFS,
-        None => false,
-    }
-}
-
 impl<K: Drop> Reactor<K> {
     /// Makes a reactor for the connections of a listener, with these places, whose limit is set. Returns it with the queue of the connections
     /// that are ready, which holds them all and has no sender once the reactor is dropped.
@@ -104,7 +84,9 @@ impl<K: Drop> Reactor<K> {
         poll.registry()
             .register(&mut SourceFd(&descriptor), LISTENER, Interest::READABLE)?;
         let (ready, queue) = bounded(alloc, places.limit()).map_err(|_| no_memory())?;
-        let lot = Arc::new(alloc, Lot::new(alloc, &poll, places)?).map_err(|_| no_memory())?;
+        let least_wait = timing.patience.map_or(0, |_| LEAST_WAIT);
+        let lot = Lot::new(alloc, &poll, places, least_wait)?;
+        let lot = Arc::new(alloc, lot).map_err(|_| no_memory())?;
         let reactor = Reactor {
             lot,
             poll,
@@ -126,8 +108,8 @@ impl<K: Drop> Reactor<K> {
 
     /// Waits until a connection comes or is ready, a place is free or the reactor is to end; for this time at most.
     pub fn wait(&mut self, most: Duration) {
-        let limit = if self.is_failing {
-            most.min(Duration::from_millis(BETWEEN_FAILURES))
+        let limit = if self.is_failing || self.lot.places().is_wanted() {
+            most.min(Duration::from_millis(BETWEEN_TRIES))
         } else if self.is_called {
             Duration::from_millis(0)
         } else {
@@ -143,7 +125,7 @@ impl<K: Drop> Reactor<K> {
     ///
     /// - The error of the system that let no connection be accepted. It is tried again at the next turn.
     pub fn turn<R: Wait>(&mut self, rt: &R, now: u64) -> io::Result<bool> {
-        let is_called = self.hand_over(rt);
+        let is_called = self.hand_over(rt) || self.lot.places().is_wanted();
         if now >= self.swept.saturating_add(self.timing.between_sweeps) {
             self.swept = now;
             self.end_late(rt, now);
@@ -186,6 +168,15 @@ impl<K: Drop> Reactor<K> {
         is_called
     }
 
+    /// Returns whether a connection may be accepted at this millisecond. A place is wanted only while a connection waits to be accepted.
+    fn has_room<R: Wait>(&self, rt: &R, listener: &TcpListener, now: u64) -> bool {
+        if !self.lot.may_admit(rt, now) && look_at(listener) == Arrived::Nothing {
+            let _wish = self.lot.places().take_wish();
+            return false;
+        }
+        self.lot.has_room(rt, now)
+    }
+
     /// Accepts connections that came, as far as there are places. If descriptors or memory run out, the connection that has waited longest is
     /// closed, and the turn ends with the one that is accepted for it. Returns whether more may wait.
     fn accept_some<R: Wait>(&self, rt: &R, now: u64) -> io::Result<bool> {
@@ -194,7 +185,7 @@ impl<K: Drop> Reactor<K> {
         };
         let mut has_closed = false;
         for _ in 0..MAX_EVENTS {
-            if !self.lot.has_room(rt) {
+            if !self.has_room(rt, listener, now) {
                 return Ok(false);
             }
             match listener.accept() {
@@ -207,7 +198,7 @@ impl<K: Drop> Reactor<K> {
                 Err(error) => match error.kind() {
                     ErrorKind::WouldBlock => return Ok(false),
                     ErrorKind::Interrupted | ErrorKind::ConnectionAborted => {}
-                    _ if !has_closed && is_short(&error) && self.lot.close_longest(rt) => {
+                    _ if !has_closed && is_short(&error) && self.lot.close_longest(rt, now) => {
                         has_closed = true;
                     }
                     _ => return Err(error),
@@ -233,10 +224,9 @@ impl<K: Drop> Reactor<K> {
     ///
     /// - `OutOfMemory`: the memory or the system is short for it. It is closed.
     fn admit<R: Wait>(&self, rt: &R, stream: TcpStream, now: u64) -> io::Result<()> {
-        if !self.lot.places().has_free() {
-            let _closed = self.lot.close_longest(rt);
+        if !self.lot.take_place(rt, now) {
+            return Ok(());
         }
-        self.lot.places().occupy();
         let _set = stream.set_nodelay(true);
         if self.set_patience(&stream).is_err() {
             self.lot.close(stream);

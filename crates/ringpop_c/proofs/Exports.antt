@@ -20,7 +20,8 @@ use Rattle.ringpop_c.specs.declared.codes.Code.{Code}
 use Rattle.ringpop_c.specs.Exports.{Export, Leave, Rejoin, Expire, Probe, Acked, Lost, HelperSaid, Take, Receive, Join, Ping, PingReq, PingReqAck}
 use Rattle.ringpop_c.specs.Exports.{Running, Waiting, Own, Member, Len, Members, Digest, Owner, Owners}
 use Rattle.ringpop_c.specs.Exports.{AreCallsOf, ExportsAreCalls, ExportRunsAreRuns, ExportRunsKeepIt, GoesByCalls, IsExportRun, StaysOrCalls}
-use Rattle.ringpop_c.specs.Steps.{owner_by, sha_hash}
+use Rattle.hash_ring.specs.Points.{hash_of}
+use Rattle.ringpop_c.specs.Steps.{owner_by}
 
 -- each step of an export is one call of the node, or none
 pub exports_are_calls : ExportsAreCalls
@@ -82,7 +83,7 @@ none_of export exports (event ∷ events) are = inl are
 run_after : (export : Export) (exports : List Export) (old mid new : Node Sha256Hash) → StaysOrCalls export old mid → GoesByCalls exports mid new
     → GoesByCalls (export ∷ exports) old new
 run_after export exports old mid new (inl same) (events, replies, are, run) =
-    (events, replies, none_of export exports events are, subst (λ (n : Node Sha256Hash). IsRun sha_hash n events replies new) same run)
+    (events, replies, none_of export exports events are, subst (λ (n : Node Sha256Hash). IsRun hash_of n events replies new) same run)
 run_after export exports old mid new (inr (event, answer, which, step, draw)) (events, replies, are, run) =
     (event ∷ events, answer ∷ replies, inr (which, are), (mid, step, run))
 
@@ -97,7 +98,7 @@ export_runs_are_runs old new (export ∷ exports) (answer ∷ answers) (mid, ste
 -- a step keeps what holds of a node
 kept : (export : Export) (old new : Node Sha256Hash) → IsNode old → StaysOrCalls export old new → IsNode new
 kept export old new whole (inl same) = subst (λ (n : Node Sha256Hash). IsNode n) (sym same) whole
-kept export old new whole (inr (event, answer, which, step, draw)) = calls_keep_it sha_hash old new event answer whole step
+kept export old new whole (inr (event, answer, which, step, draw)) = calls_keep_it hash_of old new event answer whole step
 
 all_kept : (old new : Node Sha256Hash) (exports : List Export) (answers : List Code) → IsNode old → IsExportRun old exports answers new → IsNode new
 all_kept old new [] [] whole is = subst (λ (n : Node Sha256Hash). IsNode n) (sym is) whole
@@ -108,7 +109,7 @@ all_kept old new (export ∷ exports) (answer ∷ answers) whole (mid, step, run
 
 -- the node is itself by the run that it is
 itself : (exports : List Export) (old new : Node Sha256Hash) → GoesByCalls exports old new → IsItself old new
-itself exports old new (events, replies, are, run) = run_itself sha_hash old events replies new run
+itself exports old new (events, replies, are, run) = run_itself hash_of old events replies new run
 
 pub export_runs_keep_it : ExportRunsKeepIt
 export_runs_keep_it old new exports answers whole run =

@@ -13,7 +13,7 @@ use Rattle.ringpop_c.specs.declared.codes.Code.TheVariants as code
 use Rattle.ringpop_c.specs.declared.configs.RingpopConfig.{RingpopConfig}
 use Rattle.ringpop_c.specs.Codes.{code_number, code_of_field}
 use Rattle.ringpop_c.specs.Owned.{HeldNode}
-use Rattle.ringpop_c.specs.Steps.{sha_hash}
+use Rattle.hash_ring.specs.Points.{hash_of}
 
 -- the configuration for a caller's one
 abbrev pub config_of : RingpopConfig → Config
@@ -31,7 +31,7 @@ config_of c = record {
 -- the value in the handle of a node that is alone in its cluster
 abbrev pub alone : Config → ℕ → ℕ → ℕ → ℕ → HeldNode
 alone config own incarnation seed moment =
-    let hash : Sha256Hash = record {} in record { inner = seen_of sha_hash (initial_node hash config own incarnation moment (seeded seed)) }
+    let hash : Sha256Hash = record {} in record { inner = seen_of hash_of (initial_node hash config own incarnation moment (seeded seed)) }
 
 -- the same by a caller's configuration
 abbrev pub created : RingpopConfig → ℕ → ℕ → ℕ → ℕ → HeldNode

@@ -25,7 +25,8 @@ use Rattle.ringpop_c.specs.Entries.{EntryPlace, TellsChange, TellsEntry}
 use Rattle.ringpop_c.specs.Lines.{Buffer, HearsBy, SaysBy, TellsText}
 use Rattle.ringpop_c.specs.Owners.{OwnersBy, Place}
 use Rattle.ringpop_c.specs.Probing.{AcksBy, HearsHelper, LosesBy, ProbesBy, TellsRunning, TellsWaiting}
-use Rattle.ringpop_c.specs.Steps.{ExpiresBy, LeavesBy, RejoinsBy, TellsAddress, TellsCount, owner_by, sha_hash}
+use Rattle.hash_ring.specs.Points.{hash_of}
+use Rattle.ringpop_c.specs.Steps.{ExpiresBy, LeavesBy, RejoinsBy, TellsAddress, TellsCount, owner_by}
 use Rattle.ringpop_c.specs.Taking.{HearsChange}
 
 -- an export with its arguments and its output, addresses and words read
@@ -108,7 +109,7 @@ IsCallOf (Owners key n place) event = event ≡ call.Owners key n
 abbrev pub StaysOrCalls : Export → Node Sha256Hash → Node Sha256Hash → Type 0
 StaysOrCalls export old new =
     (new ≡ old)
-    ⊎ ((event : Event) × (reply : Reply) × IsCallOf export event × NodeStep sha_hash old event reply new × DrawStep old event reply new)
+    ⊎ ((event : Event) × (reply : Reply) × IsCallOf export event × NodeStep hash_of old event reply new × DrawStep old event reply new)
 
 -- each step of an export is such a one
 abbrev pub ExportsAreCalls : Type 0
@@ -131,7 +132,7 @@ AreCallsOf (export ∷ exports) (event ∷ events) = AreCallsOf exports (event �
 
 -- the node goes from old to new by a run of the calls that these exports make
 abbrev pub GoesByCalls : List Export → Node Sha256Hash → Node Sha256Hash → Type 0
-GoesByCalls exports old new = (events : List Event) × (replies : List Reply) × AreCallsOf exports events × IsRun sha_hash old events replies new
+GoesByCalls exports old new = (events : List Event) × (replies : List Reply) × AreCallsOf exports events × IsRun hash_of old events replies new
 
 -- any exports, one after another, are such a run
 abbrev pub ExportRunsAreRuns : Type 0

@@ -11,7 +11,7 @@ use Rattle.ringpop_c.specs.declared.codes.Code.{Code}
 use Rattle.ringpop_c.specs.declared.codes.Code.TheVariants as code
 use Rattle.ringpop_c.specs.declared.owners.RingpopAddress.{RingpopAddress}
 use Rattle.ringpop_c.specs.Codes.{code_of_error}
-use Rattle.ringpop_c.specs.Steps.{sha_hash}
+use Rattle.hash_ring.specs.Points.{hash_of}
 
 -- an address as the caller has it
 abbrev pub address_told : ℕ → RingpopAddress
@@ -43,9 +43,9 @@ TellsOwners (Err error) place answer = (answer ≡ code_of_error error) × (plac
 -- the first n owners of a key among the members of a node, by the first eight bytes of SHA-256, are written
 abbrev pub OwnersBy : List ℕ → ℕ → Place → Node Sha256Hash → Code → Type 0
 OwnersBy key n place node answer =
-    (named : Result (List ℕ) NodeError) × NamesOwners (sha_hash node.hash) node.config.replicas (servers_of node.members) key n named × TellsOwners named place answer
+    (named : Result (List ℕ) NodeError) × NamesOwners (hash_of node.hash) node.config.replicas (servers_of node.members) key n named × TellsOwners named place answer
 
 -- the same among the servers of a view
 abbrev pub ViewOwnersBy : List ℕ → ℕ → Place → Viewed Sha256Hash → Code → Type 0
 ViewOwnersBy key n place view answer =
-    (named : Result (List ℕ) NodeError) × NamesOwners (sha_hash view.hash) view.replicas view.servers key n named × TellsOwners named place answer
+    (named : Result (List ℕ) NodeError) × NamesOwners (hash_of view.hash) view.replicas view.servers key n named × TellsOwners named place answer

@@ -1,9 +1,8 @@
 -- The effect of an export on the node in its handle.
-use Rattle.std.specs.Prelude.{◌≡◌, ℕ, List, Option, Some, None, Result, Ok, Err, take, slice_get}
-use Rattle.std.specs.Int.{w64, from_be_bytes}
-use Rattle.sha2.specs.Sha256.{sha256}
+use Rattle.std.specs.Prelude.{◌≡◌, ℕ, List, Option, Some, None, Result, Ok, Err, slice_get}
 use Rattle.change_core.specs.Address.{ip_of, port_of}
 use Rattle.change_core.specs.declared.changes.Change.{Change}
+use Rattle.hash_ring.specs.Points.{hash_of}
 use Rattle.hash_ring.specs.declared.hash.Sha256Hash.{Sha256Hash}
 use Rattle.node_core.specs.declared.errors.NodeError.{NodeError}
 use Rattle.node_core.specs.Asserting.{LeaveStep, RejoinStep}
@@ -16,10 +15,6 @@ use Rattle.ringpop_c.specs.declared.entries.RingpopEntry.{RingpopEntry}
 use Rattle.ringpop_c.specs.Codes.{code_number, code_of_error, code_of_result}
 use Rattle.ringpop_c.specs.Entries.{TellsChange}
 use Rattle.ringpop_c.specs.Owned.{HeldNode}
-
--- the hash of the ring: the first eight bytes of SHA-256, the high byte first
-abbrev pub sha_hash : Sha256Hash → List ℕ → ℕ
-sha_hash hash bytes = from_be_bytes w64 (take 8 (sha256 bytes))
 
 -- an empty handle returns that it is empty, and stays so; a full one returns a code and gets a node that the step allows
 abbrev pub Does : (Node Sha256Hash → Code → Node Sha256Hash → Type 0) → Option HeldNode → ℕ → Option HeldNode → Type 0
@@ -48,7 +43,7 @@ ExpiresBy moment ip port told old answer new =
 
 -- the owner of a key among the members of a node, by the first eight bytes of SHA-256
 abbrev pub owner_by : Node Sha256Hash → List ℕ → Option ℕ
-owner_by node key = slice_get (owners_by sha_hash node key) 0
+owner_by node key = slice_get (owners_by hash_of node key) 0
 
 -- an address is written, or there is none
 abbrev pub TellsAddress : Option ℕ → ℕ → ℕ → Code → Type 0

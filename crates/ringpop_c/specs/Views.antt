@@ -1,7 +1,7 @@
 -- The making of a view in an empty handle, and its lookups.
 use Rattle.std.specs.Prelude.{◌≡◌, ℕ, List, Option, Some, None}
 use Rattle.hash_ring.specs.declared.hash.Sha256Hash.{Sha256Hash}
-use Rattle.hash_ring.specs.Points.{owner}
+use Rattle.hash_ring.specs.Points.{owner, hash_of}
 use Rattle.node_core.specs.Node.{Node}
 use Rattle.node_core.specs.Viewing.{Viewed, view_of}
 use Rattle.ringpop_c.specs.declared.codes.Code.{Code}
@@ -9,7 +9,7 @@ use Rattle.ringpop_c.specs.declared.codes.Code.TheVariants as code
 use Rattle.ringpop_c.specs.Codes.{code_number}
 use Rattle.ringpop_c.specs.Owned.{HeldNode, HeldView}
 use Rattle.ringpop_c.specs.Owners.{OwnersBy, Place, ViewOwnersBy}
-use Rattle.ringpop_c.specs.Steps.{owner_by, sha_hash}
+use Rattle.ringpop_c.specs.Steps.{owner_by}
 
 -- a full handle returns that it is full, and is unchanged; an empty one returns that the node's is empty, or gets the view of the node, or
 -- is out of memory for it
@@ -26,7 +26,7 @@ LooksView look (Some held) number = (answer : Code) × (number ≡ code_number a
 
 -- the owner of a key among the servers of a view, by the first eight bytes of SHA-256
 abbrev pub view_owner : Viewed Sha256Hash → List ℕ → Option ℕ
-view_owner view key = owner (sha_hash view.hash) view.replicas view.servers key
+view_owner view key = owner (hash_of view.hash) view.replicas view.servers key
 
 -- the view of a node names the owner of each key that the node names, and lists first owners as the node does
 abbrev pub ViewsNameOwners : Type 0

@@ -8,14 +8,12 @@ use Rattle.std.proofs.lemmas.List.Sums.{sum_by_push}
 use Rattle.std.proofs.lemmas.List.Elements.{All-append, All-cons, All-head, All-nil, All-push, All-tail}
 use Rattle.indexmap.proofs.SetLemmas.{AllZip-push}
 use Rattle.locked_node.specs.declared.node.LockedNode.{LockedNode}
-use Rattle.turn_lock.specs.declared.errors.CloseError.{CloseError}
-use Rattle.turn_lock.specs.declared.errors.CloseError.TheVariants as closing
 use Rattle.node_core.specs.Node.{Seen}
-use Rattle.locked_node.specs.Passes.{NodePass, Fits, IsClosed, RefusesToClose}
+use Rattle.locked_node.specs.Passes.{NodePass, Fits, IsClosed}
 use Rattle.peer_core.specs.Acts.{Makes}
 use Rattle.server.proofs.Worked.{no_rounds}
 use Rattle.peer_core.specs.Handling.{MayHandle}
-use Rattle.server.specs.Running.{AreWorkersOf, IsLeftOpen, IsTimerOf, end_error, rounds_pass, timer_period, worker_passes}
+use Rattle.server.specs.Running.{AreWorkersOf, IsTimerOf, rounds_pass, timer_period, worker_passes}
 use Rattle.server.specs.Threads.{AreBack, IsTimer, IsTimerBack, IsWorker, IsWorkerBack, ServeTogether, CountsServed, passes_in, served_in}
 use Rattle.server.specs.Working.{AreRounds, RoundTimes, hosts_of}
 use Rattle.server.specs.declared.servers.Server.{Server}
@@ -46,7 +44,7 @@ all_taken R all left made none t =
     subst (λ (xs : List _). AllZip R xs made) (sym (ap (λ (xs : List _). reverse xs) whole ∙ reverse-reverse t.0)) t.2
 
 module _ {H A : Type 0} (R : A → WorkerBack H → Type 0) (all : List A) where
-  -- the passes of those that are back stand after those that were there before, and so many connections were served by them
+  -- the passes of those that are back stand after those that were there before, and this number of connections was served by them
   abbrev pub SomeBack : List A → List (NodePass H) → List (NodePass H) → ℕ → Type 0
   SomeBack left before now connections =
       (back : List (WorkerBack H)) × (now ≡ before ++ passes_in back) × (connections ≡ served_in back) × Taken R all left back
@@ -164,14 +162,6 @@ module _ {H : Type 0} (node locked : LockedNode H) (workers handles passes : Lis
   pub closed_so : (hash_of : H → List ℕ → ℕ) (now : Seen H) → IsClosed hash_of locked passes now → IsClosed hash_of node (workers ++ handles ++ rounds ∷ []) now
   closed_so hash_of now closed =
       subst (λ (xs : List (NodePass H)). IsClosed hash_of node xs now) is (subst (λ (x : LockedNode H). IsClosed hash_of x passes now) its closed)
-
-  -- and so is the one that was not
-  pub left_so : (cause : CloseError) → RefusesToClose locked passes cause → IsLeftOpen node (workers ++ handles ++ rounds ∷ []) (end_error cause)
-  left_so cause refuses = by_cause cause (subst (λ (xs : List (NodePass H)). RefusesToClose node xs cause) is (subst (λ (x : LockedNode H). RefusesToClose x passes cause) its refuses))
-    where
-      by_cause : (c : CloseError) → RefusesToClose node (workers ++ handles ++ rounds ∷ []) c → IsLeftOpen node (workers ++ handles ++ rounds ∷ []) (end_error c)
-      by_cause closing.ForeignPass h = h
-      by_cause closing.MissingPass h = h
 
 -- the passes that were given to threads fit the node
 pub given_fit : {H A : Type 0} (server it : Server H A) (rounds pass : NodePass H) (workers passes : List (NodePass H)) → it ≡ server → pass ≡ rounds → passes ≡ workers

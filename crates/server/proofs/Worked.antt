@@ -1,5 +1,5 @@
 -- What a thread of a server does to the node, connection by connection and round by round.
-use Rattle.std.proofs.Common.{◌≡◌, ◌<◌, ◌≤◌, ℕ, Bool, List, [], ◌++◌, Option, Some, None, IfNone, IfSome, Result, Ok, Err, Vec, length, min, take, ap, ◌∙◌, refl, subst, sym, inl, inr, arith}
+use Rattle.std.proofs.Common.{◌≡◌, ◌<◌, ℕ, Bool, List, [], ◌++◌, Option, Some, None, IfNone, IfSome, Result, Ok, Err, Vec, length, min, take, ap, ◌∙◌, refl, subst, sym, inl, inr, arith}
 use Rattle.std.specs.Global.{Global}
 use Rattle.std.specs.Io.KnownBytes.{Appends}
 use Rattle.std.proofs.Math.Nat.{min_comm}
@@ -79,13 +79,6 @@ module _ {H : Type 0} (locked : LockedNode H) (Time : RoundTimes) where
     not_yet from now p is to told early =
         makes_as (JoinsIfDue Time hosts last due next)
         (λ acts n. subst (λ (x : Option ℕ). JoinsIfDue Time hosts last x next acts) (sym is) (now, told, inl (early, n, to ∙ is))) (makes_none locked p)
-
-    -- they are joined
-    pub joins_now : (from now : ℕ) (p q : NodePass H) → due ≡ Some from → Time.told last now → from ≤ now
-        → Makes locked (JoinsAt now hosts next) p q → Makes locked (JoinsIfDue Time hosts last due next) p q
-    joins_now from now p q is told late m =
-        makes_as (JoinsIfDue Time hosts last due next)
-        (λ acts h. subst (λ (x : Option ℕ). JoinsIfDue Time hosts last x next acts) (sym is) (now, told, inr (late, h))) m
 
   module _ (period : ℕ) (hosts : List Address) where
     -- no round was made yet

@@ -11,7 +11,7 @@ use crate::connections::{Asked, answer_over};
 use crate::healing::HealingPlan;
 use change_core::Address;
 use hash_ring::PointHash;
-use line_service::{MAX_READ, Port, Stopwatch, Timeouts, Turn, hear_arrived};
+use line_service::{Input, MAX_READ, Port, Stopwatch, Timeouts, Turn, hear_arrived};
 use locked_node::{LockedNode, NodePass};
 use peer_core::{HandlerMut, Member};
 use reactor::Places;
@@ -161,8 +161,12 @@ impl<H: PointHash, A> Server<H, A> {
         for _ in rt.forever() {
             match self.port.turn(rt, alloc, &self.stopwatch, buffer) {
                 Turn::Came(came) => {
+                    let input = match came.stream.set_nonblocking(false) {
+                        Ok(()) => hear_arrived(alloc, &came.line),
+                        Err(_) => Input::Nothing,
+                    };
                     return Some(Asked {
-                        input: hear_arrived(alloc, &came.line),
+                        input,
                         stream: came.stream,
                     });
                 }

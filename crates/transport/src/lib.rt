@@ -7,4 +7,4 @@ mod tcp_links;
 
 pub use deadlines::{Deadline, Timed};
 pub use dials::Dial;
-pub use tcp_links::{Limits, TcpLink, fault_of, send_line, send_owned_line, socket_address};
+pub use tcp_links::{Limits, TcpLink, fault_of, send_owned_line, socket_address};

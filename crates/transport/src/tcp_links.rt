@@ -15,11 +15,11 @@ use change_core::Address;
 use message_core::{Content, Message, WireError};
 use peer_core::{Link, LinkError};
 use std::alloc::Global;
-use std::io::{BufReader, BufWriter, Read, Write};
+use std::io::{BufReader, Read, Write};
 use std::net::{IpAddr, Ipv4Addr, SocketAddr};
 use std::sync::Wait;
 use std::time::{Clock, Duration, Instant};
-use wire_json::{decode, encode, read_line, write_line};
+use wire_json::{decode, encode, read_line};
 
 /// The time limits of a call of a link as a whole: connecting, writing the line and reading the answer's.
 #[derive(Clone, Copy, Debug, PartialEq, Eq)]
@@ -78,31 +78,6 @@ pub fn fault_of(fault: WireError) -> LinkError
     }
 }
 
-/// Writes a line and its newline, and gives the stream back. Both are passed to the stream together, so that over a
-/// socket the newline waits for no acknowledgement of the line. After an error the stream is dropped.
-///
-/// # Errors
-///
-/// - `Memory`: out of memory. There was no output.
-/// - `Io`: a write failed, after a part of the line.
-pub fn send_line<W: Write + Drop>(alloc: Global, stream: W, line: &[u8]) -> Result<W, LinkError>
-    ensures written { IfOk result (λ w. Appends (W.contents stream) (W.contents w) (line.now ++ 10 ∷ [])) }
-    ensures named { IfErr result IsNamed }
-    ensures unspent { IfErr result (λ e. e ≢ LinkError.Spent) }
-{
-    // One byte more than the line and its newline: a buffer that would be full by a write lets it past.
-    let Ok(mut writer) = BufWriter::with_capacity(alloc, line.len() + 2, stream) else {
-        return Err(LinkError::Memory);
-    };
-    if let Err(fault) = write_line(&mut writer, line) {
-        return Err(fault_of(fault));
-    }
-    match writer.into_inner() {
-        Ok(stream) => Ok(stream),
-        Err(_) => Err(LinkError::Io),
-    }
-}
-
 /// The line with its newline.
 fn with_newline(line: Vec<u8>) -> Result<Vec<u8>, LinkError>
     ensures whole { IfOk result (λ v. v.items ≡ line.items ++ 10 ∷ []) }
@@ -132,8 +107,9 @@ fn write_whole<W: Write + Drop>(stream: W, bytes: &[u8]) -> Result<W, LinkError>
     }
 }
 
-/// Writes a line and its newline together, as `send_line` does, but out of the line's own buffer: nothing is allocated if
-/// that has room for one byte more. After an error the stream is dropped.
+/// Writes a line and its newline, and gives the stream back. Both are passed to the stream together, so that over a socket the
+/// newline waits for no acknowledgement of the line. They go out of the line's own buffer: nothing is allocated if that has room
+/// for one byte more. After an error the stream is dropped.
 ///
 /// # Errors
 ///
@@ -224,13 +200,13 @@ impl<N> TcpLink<N> {
 fn exchange<S: Read + Write + Drop>(
     alloc: Global,
     stream: S,
-    line: &[u8],
+    line: Vec<u8>,
 ) -> Result<Message, LinkError>
-    ensures came { IfOk result (λ m. (asked : S) × Appends (S.contents stream) (S.contents asked) (line.now ++ 10 ∷ []) × IfSome (S.remaining asked) (λ xs. IsLine (λ v. MessageForm v m) (line_of xs))) }
+    ensures came { IfOk result (λ m. (asked : S) × Appends (S.contents stream) (S.contents asked) (line.items ++ 10 ∷ []) × IfSome (S.remaining asked) (λ xs. IsLine (λ v. MessageForm v m) (line_of xs))) }
     ensures named { IfErr result IsNamed }
     ensures unspent { IfErr result (λ e. e ≢ LinkError.Spent) }
 {
-    let stream = send_line(alloc, stream, line)?;
+    let stream = send_owned_line(stream, line)?;
     get(alloc, stream)
 }
 
@@ -271,7 +247,7 @@ impl<N: Dial + Clock> TcpLink<N> {
         let Ok(stream) = self.net.dial(&socket_address(to), limit) else {
             return Err(LinkError::Io);
         };
-        exchange(alloc, self.within(stream, start, &message.content), &line)
+        exchange(alloc, self.within(stream, start, &message.content), line)
     }
 }
 

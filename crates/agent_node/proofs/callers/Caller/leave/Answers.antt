@@ -6,5 +6,5 @@ use Rattle.agent_node.proofs.callers.Caller.leave.Goals as goal
 
 pub returns-clause-did : goal.returns-clause-did
 returns-clause-did g c =
-    as_seen (Tries call.Leave reply.Leave) c.answered.result c.args.self.now _ _ _ _ c.self.view_is c.deref.ensures
-    (tried_once _ _ _ _ call.Leave reply.Leave c.leave.result c.answered.result c.leave.ensures.called c.leave.ensures.refused c.answered.ensures)
+    as_seen (Tries call.Leave reply.Leave) c.allowed.result c.args.self.now _ _ _ _ c.self.view_is c.deref.ensures
+    (tried_once _ _ _ _ call.Leave reply.Leave c.leave.result c.allowed.result c.leave.ensures.called c.leave.ensures.refused c.allowed.ensures)

@@ -6,5 +6,5 @@ use Rattle.agent_node.proofs.callers.Caller.members.Goals as goal
 
 pub returns-clause-did : goal.returns-clause-did
 returns-clause-did g c =
-    as_seen (Tries call.Members reply.Members) c.answered.result c.args.self.now _ _ _ _ c.self.view_is c.deref.ensures
-    (tried_once _ _ _ _ call.Members reply.Members c.members.result c.answered.result c.members.ensures.called c.members.ensures.refused c.answered.ensures)
+    as_seen (Tries call.Members reply.Members) c.allowed.result c.args.self.now _ _ _ _ c.self.view_is c.deref.ensures
+    (tried_once _ _ _ _ call.Members reply.Members c.members.result c.allowed.result c.members.ensures.called c.members.ensures.refused c.allowed.ensures)

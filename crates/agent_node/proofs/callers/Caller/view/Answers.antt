@@ -4,5 +4,5 @@ use Rattle.agent_node.proofs.callers.Caller.view.Goals as goal
 
 pub returns-clause-did : goal.returns-clause-did
 returns-clause-did g c =
-    as_seen Looks c.answered.result c.args.self.now _ _ _ _ c.self.view_is c.deref.ensures
-    (looked_once _ _ _ _ c.view.result c.answered.result c.view.ensures.called c.view.ensures.refused c.answered.ensures)
+    as_seen Looks c.allowed.result c.args.self.now _ _ _ _ c.self.view_is c.deref.ensures
+    (looked_once _ _ _ _ c.view.result c.allowed.result c.view.ensures.called c.view.ensures.refused c.allowed.ensures)
